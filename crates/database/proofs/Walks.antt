@@ -48,31 +48,31 @@ next-step n w j k m (x ∷ s) o e =
     let o1 : ordered n w (x .number) s ≡ true = grind (arith, tells) in
     ⊎-elim
     (λ (h : k < x .number).
-        let q : _≡_ {A = Option ℕ} (Some (x .number)) (Some m) = grind (arith, tells) in
-        let t : x .number ≡ m = cc in
-        let a1 = above-low n w (x .number) m s o1 (omega arith) in
-        record {
-            lits = x .lits;
-            rises = omega arith;
-            found = grind (arith, tells);
-            split =
-                let b1 : above k (x ∷ s) ≡ x ∷ s = grind (arith, tells) in
-                let b2 : above m (x ∷ s) ≡ above m s = grind (arith, tells) in
-                let b3 : x ≡ record { number = m; lits = x .lits } = ap (λ i. record { number = i; lits = x .lits }) t in
-                cc
-        })
+    let q : _≡_ {A = Option ℕ} (Some (x .number)) (Some m) = grind (arith, tells) in
+    let t : x .number ≡ m = cc in
+    let a1 = above-low n w (x .number) m s o1 (omega arith) in
+    record {
+      lits = x .lits;
+      rises = omega arith;
+      found = grind (arith, tells);
+      split =
+          let b1 : above k (x ∷ s) ≡ x ∷ s = grind (arith, tells) in
+          let b2 : above m (x ∷ s) ≡ above m s = grind (arith, tells) in
+          let b3 : x ≡ record { number = m; lits = x .lits } = ap (λ i. record { number = i; lits = x .lits }) t in
+          cc;
+    })
     (λ (h : x .number ≤ k).
-        let q : next-above k s ≡ Some m = grind (arith, tells) in
-        let r = next-step n w (x .number) k m s o1 q in
-        let lt = r .rises in
-        record {
-            lits = r .lits;
-            rises = r .rises;
-            found = let f = r .found in grind (arith, tells);
-            split =
-                let b1 : above k (x ∷ s) ≡ above k s = grind (arith, tells) in
-                let b2 : above m (x ∷ s) ≡ above m s = grind (arith, tells) in
-                let b3 = r .split in
-                cc
-        })
+    let q : next-above k s ≡ Some m = grind (arith, tells) in
+    let r = next-step n w (x .number) k m s o1 q in
+    let lt = r .rises in
+    record {
+      lits = r .lits;
+      rises = r .rises;
+      found = let f = r .found in grind (arith, tells);
+      split =
+          let b1 : above k (x ∷ s) ≡ above k s = grind (arith, tells) in
+          let b2 : above m (x ∷ s) ≡ above m s = grind (arith, tells) in
+          let b3 = r .split in
+          cc;
+    })
     (cases-lt k (x .number))

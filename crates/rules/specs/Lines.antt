@@ -24,11 +24,11 @@ use Rattle.rules.specs.Restoring.{Saved, Room, save-fault}
 -- whether each of the five fields, in their order, is as its kind wants it: a field in use is in range, any other is 0
 abbrev pub fields : Line → List Bool
 fields line = elim (line .kind) [
-    Resolve ↦ true ∷ (number-ok (line .clause) ∷ (literal-ok 512 (line .pivot) ∷ (number-ok (line .first) ∷ (number-ok (line .second) ∷ []))))
+  | Resolve ↦ true ∷ (number-ok (line .clause) ∷ (literal-ok 512 (line .pivot) ∷ (number-ok (line .first) ∷ (number-ok (line .second) ∷ []))))
   | Subsumed ↦ true ∷ (number-ok (line .clause) ∷ (eqb (natAbs (line .pivot)) 0 ∷ (number-ok (line .first) ∷ (eqb (line .second) 0 ∷ []))))
   | Blocked ↦ true ∷ (number-ok (line .clause) ∷ (literal-ok 512 (line .pivot) ∷ (eqb (line .first) 0 ∷ (eqb (line .second) 0 ∷ []))))
   | Eliminate ↦ true ∷ (eqb (line .clause) 0 ∷ ((literal-ok 512 (line .pivot) && positive (line .pivot)) ∷ (eqb (line .first) 0 ∷ (eqb (line .second) 0 ∷ []))))
-  ]
+]
 
 -- the position, counted on from i, of the first that does not hold
 abbrev pub first-false : ℕ → List Bool → Option ℕ
@@ -112,11 +112,11 @@ eliminate-fault s line = inside (λ (p : ℕ × ℕ). NotCovered (p .0) (p .1)) 
 -- the rule of the line's kind
 abbrev pub rule-fault : ℕ → List Entry → Line → Option SessionFault
 rule-fault given s line = elim (line .kind) [
-    Resolve ↦ resolve-fault given s line
+  | Resolve ↦ resolve-fault given s line
   | Subsumed ↦ subsumed-fault s line
   | Blocked ↦ blocked-fault s line
   | Eliminate ↦ eliminate-fault s line
-  ]
+]
 
 -- ── What an accepted line does ──
 
@@ -125,7 +125,7 @@ abbrev pub eliminated : ℤ → List Entry → List Saved
 eliminated v [] = []
 eliminated v (e ∷ es) =
     cond (has v (e .lits)) (record { pivot = v; lits = e .lits } ∷ eliminated v es)
-        (cond (has (negℤ v) (e .lits)) (record { pivot = negℤ v; lits = e .lits } ∷ eliminated v es) (eliminated v es))
+    (cond (has (negℤ v) (e .lits)) (record { pivot = negℤ v; lits = e .lits } ∷ eliminated v es) (eliminated v es))
 
 -- the standing clauses that do not hold a variable
 abbrev pub free-of : ℤ → List Entry → List Entry
@@ -135,20 +135,20 @@ free-of v (e ∷ es) = cond (has v (e .lits) || has (negℤ v) (e .lits)) (free-
 -- what stands after the line
 abbrev pub line-leaves : List Entry → Line → List Entry
 line-leaves s line = elim (line .kind) [
-    Resolve ↦ inserted (record { number = line .clause; lits = line-resolvent s line }) s
+  | Resolve ↦ inserted (record { number = line .clause; lits = line-resolvent s line }) s
   | Subsumed ↦ without (line .clause) s
   | Blocked ↦ without (line .clause) s
   | Eliminate ↦ free-of (line .pivot) s
-  ]
+]
 
 -- what the line saves for restoring
 abbrev pub line-saves : List Entry → Line → List Saved
 line-saves s line = elim (line .kind) [
-    Resolve ↦ []
+  | Resolve ↦ []
   | Subsumed ↦ []
   | Blocked ↦ record { pivot = line .pivot; lits = clause-under (line .clause) s } ∷ []
   | Eliminate ↦ eliminated (line .pivot) s
-  ]
+]
 
 -- the highest number given, after the line
 abbrev pub line-gives : ℕ → Line → ℕ
@@ -159,11 +159,11 @@ line-gives given line = elim (line .kind) [ Resolve ↦ line .clause | Subsumed 
 -- why the space that the line needs is not there
 abbrev pub space-fault : Limits → Room → List Entry → List Saved → Line → Option SessionFault
 space-fault l room s saved line = elim (line .kind) [
-    Resolve ↦ inside Database (put-fault l s (record { number = line .clause; lits = line-resolvent s line }))
+  | Resolve ↦ inside Database (put-fault l s (record { number = line .clause; lits = line-resolvent s line }))
   | Subsumed ↦ None
   | Blocked ↦ inside Stack (save-fault room saved (line-saves s line))
   | Eliminate ↦ inside Stack (save-fault room saved (line-saves s line))
-  ]
+]
 
 -- why a line is refused: its fields, its rule, the space
 abbrev pub line-fault : Limits → Room → ℕ → List Entry → List Saved → Line → Option SessionFault

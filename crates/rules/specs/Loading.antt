@@ -38,8 +38,8 @@ load-fault n k l s zs =
     check (ltb k 1024) LoadedFull then
     inside LiteralBeyond (beyond-at n 0 zs) then
     cond (opposed zs) None
-        (inside TooManyLiterals (too-many-at 64 0 [] zs) then
-        inside Database (put-fault l s (load-entry k zs)))
+    (inside TooManyLiterals (too-many-at 64 0 [] zs) then
+    inside Database (put-fault l s (load-entry k zs)))
 
 -- what stands after an accepted list: one with an opposite pair takes its number and is left off the database
 abbrev pub load-adds : ℕ → List Entry → List ℤ → List Entry

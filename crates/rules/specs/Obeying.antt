@@ -49,11 +49,11 @@ IsLiteral n z = (1 ≤ natAbs z) × (natAbs z ≤ n)
 -- the fields of a line are in range: those in use are a clause number or a literal, the others are 0
 abbrev pub InRange : Line → Type 0
 InRange line = elim (line .kind) [
-    Resolve ↦ IsNumber (line .clause) × IsLiteral 512 (line .pivot) × IsNumber (line .first) × IsNumber (line .second)
+  | Resolve ↦ IsNumber (line .clause) × IsLiteral 512 (line .pivot) × IsNumber (line .first) × IsNumber (line .second)
   | Subsumed ↦ IsNumber (line .clause) × (line .pivot ≡ pos 0) × IsNumber (line .first) × (line .second ≡ 0)
   | Blocked ↦ IsNumber (line .clause) × IsLiteral 512 (line .pivot) × (line .first ≡ 0) × (line .second ≡ 0)
   | Eliminate ↦ (line .clause ≡ 0) × ((v : ℕ) × (line .pivot ≡ pos v) × (1 ≤ v) × (v ≤ 512)) × (line .first ≡ 0) × (line .second ≡ 0)
-  ]
+]
 
 -- R: the number is new and above all others, the parents stand and hold the pivot and its negation,
 -- and the resolvent is a clause: no opposite pair, at most 64 literals
@@ -61,8 +61,8 @@ abbrev pub ObeysResolve : ℕ → List Entry → Line → Type 0
 ObeysResolve given s line =
     (given < line .clause) ×
     ((a : List ℤ) × (b : List ℤ) × Stands s (line .first) a × Stands s (line .second) b ×
-        In (line .pivot) a × In (negℤ (line .pivot)) b × (Tautological (line .pivot) a b → ⊥) ×
-        ((c : List ℤ) × IsResolvent (line .pivot) a b c × (length c ≤ 64)))
+    In (line .pivot) a × In (negℤ (line .pivot)) b × (Tautological (line .pivot) a b → ⊥) ×
+    ((c : List ℤ) × IsResolvent (line .pivot) a b c × (length c ≤ 64)))
 
 -- S: both stand, first is another clause, and its literals are all in clause
 abbrev pub ObeysSubsumed : List Entry → Line → Type 0
@@ -84,11 +84,11 @@ ObeysEliminate s line =
 
 abbrev pub Obeys : ℕ → List Entry → Line → Type 0
 Obeys given s line = elim (line .kind) [
-    Resolve ↦ ObeysResolve given s line
+  | Resolve ↦ ObeysResolve given s line
   | Subsumed ↦ ObeysSubsumed s line
   | Blocked ↦ ObeysBlocked s line
   | Eliminate ↦ ObeysEliminate s line
-  ]
+]
 
 -- the database has the space for a clause under a number
 abbrev pub HasSpace : Limits → List Entry → ℕ → List ℤ → Type 0
@@ -103,11 +103,11 @@ HasRoom room saved new = (length saved + length new ≤ room .entries) × (saved
 -- the space that a line needs is there
 abbrev pub Space : Limits → Room → List Entry → List Saved → Line → Type 0
 Space l room s saved line = elim (line .kind) [
-    Resolve ↦ HasSpace l s (line .clause) (line-resolvent s line)
+  | Resolve ↦ HasSpace l s (line .clause) (line-resolvent s line)
   | Subsumed ↦ Unit {0}
   | Blocked ↦ HasRoom room saved (line-saves s line)
   | Eliminate ↦ HasRoom room saved (line-saves s line)
-  ]
+]
 
 -- a line should be accepted
 abbrev pub Acceptable : Limits → Room → ℕ → List Entry → List Saved → Line → Type 0

@@ -1,1 +1,4 @@
 pub mod Swaps
+pub mod Literals
+pub mod Inserts
+pub mod Marks

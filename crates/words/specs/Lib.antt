@@ -6,3 +6,5 @@ pub mod Standing
 pub mod Refusals
 pub mod Meanings
 pub mod Blocks
+pub mod Spots
+pub mod Marks

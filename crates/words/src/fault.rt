@@ -96,7 +96,11 @@ pub struct LocatedFault {
 fn refusal(number: u8, place: Place, layer: Layer) -> Refusal
     ensures { λ r. ⌜ r ≡ record { number = number; place = place; layer = layer } ⌝ }
 {
-    Refusal { number, place, layer }
+    Refusal {
+        number,
+        place,
+        layer,
+    }
 }
 
 impl DatabaseFault {

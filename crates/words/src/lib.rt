@@ -2,15 +2,20 @@
 
 pub mod blocks;
 pub mod clause;
+pub mod convert;
 pub mod fault;
 pub mod limits;
 pub mod line;
 pub mod literal;
 pub mod number;
 pub mod refusal;
+mod spot;
 pub mod variable;
 
 pub use clause::Clause;
+pub use convert::FileFromSession;
+pub use convert::SessionFromDatabase;
+pub use convert::SessionFromStack;
 pub use fault::DatabaseFault;
 pub use fault::File;
 pub use fault::FileFault;

@@ -1,9 +1,10 @@
 ghost use denote.Ref.{now};
 ghost use mathlib.Core.Path.{_≡_};
-ghost use Prim.Native.Nat.{_≤_};
+ghost use Prim.Native.Nat.{_≤_, _<_};
 ghost use lib.IntN.{negℤ, natAbs};
 ghost use Rattle.std.specs.Options.{Cases as BySome};
 ghost use Rattle.words.specs.Literals.{positive};
+ghost use Rattle.words.specs.Marks.{mark-place};
 use crate::variable::Variable;
 
 // A literal: a variable v, or its negation as -v.
@@ -29,7 +30,9 @@ impl Literal {
     pub fn variable(&self) -> Variable
         ensures { λ r. ⌜ r .value ≡ natAbs (now (self .entry) .value) ⌝ }
     {
-        Variable { value: self.value.unsigned_abs() }
+        Variable {
+            value: self.value.unsigned_abs(),
+        }
     }
 
     // Its negation.
@@ -44,5 +47,14 @@ impl Literal {
         ensures { λ r. ⌜ r ≡ positive (now (self .entry) .value) ⌝ }
     {
         self.value > 0
+    }
+
+    // Its place among 1,024 literal marks: v has place v - 1, -v has place 511 + v.
+    pub fn mark_place(&self) -> usize
+        ensures value { λ r. ⌜ r ≡ mark-place 512 (now (self .entry) .value) ⌝ }
+        ensures bound { λ r. ⌜ r < 1024 ⌝ }
+    {
+        let v = self.value.unsigned_abs() as usize;
+        if self.is_positive() { v - 1 } else { 511 + v }
     }
 }

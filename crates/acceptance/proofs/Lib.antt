@@ -1,0 +1,14 @@
+pub mod Sets
+pub mod Rising
+pub mod Passing
+pub mod Entries
+pub mod Pairs
+pub mod Loaded
+pub mod Judged
+pub mod Origins
+pub mod Positions
+pub mod LinePlaces
+pub mod ListPlaces
+pub mod RestorePlaces
+pub mod Placed
+pub mod Cases

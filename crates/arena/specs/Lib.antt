@@ -1,0 +1,4 @@
+pub mod Splices
+pub mod Layout
+pub mod Contents
+pub mod Order

@@ -1,0 +1,14 @@
+use mathlib.Core.Path.{_≡_}
+use Prim.Native.Nat.{_-_, _≤_}
+use lib.ListN.{length}
+use Rattle.reader.specs.Headers.{past-line}
+use Rattle.reader.specs.Scanning.{rest-of}
+use Rattle.reader.proofs.scanner.Scanner.skip_line.Given as given
+
+abbrev pub Inv-loop-self : given.InvT-loop-self
+Inv-loop-self l =
+    (l .self .text ≡ l .entry .self .text) × (l .entry .self .at ≤ l .self .at) ×
+    (past-line (l .self .line) (rest-of (l .self) .bytes) ≡ past-line (l .entry .self .line) (rest-of (l .entry .self) .bytes))
+
+abbrev pub μ-loop-self : given.MeasureT-loop-self
+μ-loop-self l = length (l .entry .self .text .now) - l .self .at

@@ -1,0 +1,11 @@
+use mathlib.Core.Path.{_≡_}
+use Prim.Native.Nat.{_+_, _-_}
+use lib.ListN.{length, drop}
+use Rattle.reader.specs.Tokens.{run}
+use Rattle.reader.proofs.scanner.Scanner.word_end.Given as given
+
+abbrev pub Inv-loop-end : given.InvT-loop-end
+Inv-loop-end l = l .end + run (drop (l .end) (l .text)) ≡ l .entry .end + run (drop (l .entry .end) (l .text))
+
+abbrev pub μ-loop-end : given.MeasureT-loop-end
+μ-loop-end l = length (l .text) - l .end

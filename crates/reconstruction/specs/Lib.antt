@@ -1,0 +1,4 @@
+pub mod Stacks
+pub mod Weights
+pub mod Saves
+pub mod Meanings

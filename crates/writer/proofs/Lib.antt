@@ -1,0 +1,4 @@
+pub mod Puts
+pub mod Walks
+pub mod Bounds
+pub mod Examples
