@@ -3,17 +3,17 @@
 use arena::Arena;
 use arena::ArenaDatabase;
 use arena::Record;
-use database::ClauseDatabase;
 use reader::read_formula;
 use reconstruction::ReconstructionStack;
 use reconstruction::SavedEntry;
 use reconstruction::SavedLiteral;
+use session::Counts;
+use session::seal;
 use std::env;
 use std::error::AnyError;
 use std::fs;
 use std::io::Write;
 use words::File;
-use writer::write;
 
 // The path of the formula: the first argument, or formula.cnf in the current folder.
 fn formula_path(rt: &LibcRuntime) -> Result<String, AnyError> {
@@ -23,21 +23,6 @@ fn formula_path(rt: &LibcRuntime) -> Result<String, AnyError> {
         Some(path) => Ok(path),
         None => Ok(String::from_str(rt.alloc(), "formula.cnf")?),
     }
-}
-
-// Whether the empty clause stands.
-fn empty_stands<D: ClauseDatabase>(db: &D) -> bool {
-    db.lawful();
-    let mut above = 0;
-    while let Some(number) = db.next(above) {
-        if let Some(clause) = db.clause(number) {
-            if clause.len == 0 {
-                return true;
-            }
-        }
-        above = number.value;
-    }
-    false
 }
 
 // The name of a file, or of the writing, in a refusal.
@@ -60,14 +45,15 @@ fn print_refusal(rt: &LibcRuntime, file: File, line: usize, number: u8) -> Resul
 // Prints the counts and the first bytes of the text.
 fn print_formula(
     rt: &LibcRuntime,
-    standing: usize,
-    empty: bool,
+    counts: &Counts,
     text: &[u8],
     len: usize,
 ) -> Result<(), AnyError> {
-    let flag = if empty { 1 } else { 0 };
+    let accepted = counts.accepted;
+    let standing = counts.standing;
+    let empty = counts.empty;
     println!(rt, "accepted standing empty")?;
-    println!(rt, "0 {standing} {flag}")?;
+    println!(rt, "{accepted} {standing} {empty}")?;
     if len <= text.len() {
         rt.stdout().write_all(&text[0..len])?;
     }
@@ -90,8 +76,9 @@ fn check(
         Ok(session) => session,
         Err(fault) => return print_refusal(rt, fault.file, fault.line, fault.refusal().number),
     };
-    match write(&db, session.variables(), text) {
-        Ok(len) => print_formula(rt, db.count(), empty_stands(&db), text, len),
+    let (finished, counts) = seal(session).finish(&db);
+    match finished.write(&db, text) {
+        Ok(len) => print_formula(rt, &counts, text, len),
         Err(fault) => print_refusal(rt, File::Write, 0, fault.refusal().number),
     }
 }

@@ -1,3 +1,4 @@
 pub mod Beyond
 pub mod Pairs
 pub mod Gathers
+pub mod Begins

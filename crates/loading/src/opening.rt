@@ -3,15 +3,17 @@ ghost use mathlib.Core.Path.{_≡_};
 ghost use Rattle.std.specs.Vec.{made};
 ghost use Rattle.words.specs.Checks.{fault-of};
 ghost use Rattle.rules.specs.Loading.{open-fault};
-ghost use Rattle.reconstruction.specs.Meanings.{saved};
+ghost use Rattle.rules.specs.Histories.{opened};
+ghost use Rattle.theory.specs.Leading.{ToLoading};
+ghost use Rattle.reconstruction.specs.Meanings.{saved, room-of};
 ghost use Rattle.loading.specs.Meanings.{formula-variables, loaded-count};
 use crate::Loading;
 use database::ClauseDatabase;
 use reconstruction::ReconstructionStack;
 use words::SessionFault;
 
-// Opens a session for a formula of this many variables; database and reconstruction stack have to be empty.
-pub fn open<D: ClauseDatabase>(
+// A session for a formula of this many variables; database and reconstruction stack have to be empty.
+fn begin<D: ClauseDatabase>(
     variables: u32,
     db: &D,
     stack: &ReconstructionStack<'_>,
@@ -33,6 +35,21 @@ pub fn open<D: ClauseDatabase>(
         variables: variables as u16,
         loaded: 0,
     })
+}
+
+// Opens a session for a formula of this many variables; database and reconstruction stack have to be empty. A history begins
+// with it.
+pub fn open<D: ClauseDatabase>(
+    variables: u32,
+    db: &D,
+    stack: &ReconstructionStack<'_>,
+) -> Result<Loading, SessionFault>
+    ensures fault { λ r. ⌜ fault-of r ≡ open-fault variables (standing (now (db .entry))) (saved (now (stack .entry))) ⌝ }
+    ensures variables { λ r. ⌜ made r (λ s. formula-variables s ≡ variables) ⌝ }
+    ensures loaded { λ r. ⌜ made r (λ s. loaded-count s ≡ 0) ⌝ }
+    ensures history { λ r. ⌜ made r (λ s. ToLoading (limited (now (db .entry))) (room-of (now (stack .entry))) (opened variables) (formula-variables s) (loaded-count s) (standing (now (db .entry))) (saved (now (stack .entry)))) ⌝ }
+{
+    begin(variables, db, stack)
 }
 
 impl Loading {

@@ -5,3 +5,4 @@ pub mod Repair
 pub mod Eliminate
 pub mod Steps
 pub mod Keeping
+pub mod Led

@@ -1,0 +1,4 @@
+pub mod Entering
+pub mod Words
+pub mod Whole
+mod Examples
