@@ -221,24 +221,43 @@ fn put<D: ClauseDatabase>(db: &mut D, at: u32, list: &[i16]) -> Result<u8, Fail>
     }
 }
 
-// Where several refusals apply, the first of them is told.
+// A number, literals, and the number of the refusal, or 0.
+type Told = (u32, [i16; 3], u8);
+
+// On an arena of two literals and one record: where several refusals apply, the first of them is told.
+const ON_ARENA: [Told; 5] = [
+    (1, [512, -1, 3], 64),
+    (1, [512, -1, 0], 0),
+    (1, [1, 2, 3], 60),
+    (2, [1, 2, 3], 63),
+    (2, [0, 0, 0], 63),
+];
+
+// On a bitmask database with 255 clauses.
+const ON_BITMASK: [Told; 6] = [
+    (256, [65, 0, 0], 61),
+    (255, [65, 0, 0], 60),
+    (256, [-64, 0, 0], 0),
+    (256, [65, 0, 0], 60),
+    (257, [65, 0, 0], 61),
+    (257, [64, 0, 0], 63),
+];
+
+fn puts<D: ClauseDatabase>(db: &mut D, table: &[Told]) -> Result<(), Fail> {
+    for (at, list, told) in table {
+        check_eq(put(db, *at, list)?, *told).note(at)?;
+    }
+    Ok(())
+}
+
 #[test]
 fn refusals_in_order() -> Result<(), Fail> {
     let mut literals = [0; 2];
     let mut records = [OLD; 1];
-    let mut arena = Arena::new(&mut literals, &mut records);
-    check_eq(put(&mut arena, 1, &[512, -1, 3])?, 64)?;
-    check_eq(put(&mut arena, 1, &[512, -1])?, 0)?;
-    check_eq(put(&mut arena, 1, &[1, 2, 3])?, 60)?;
-    check_eq(put(&mut arena, 2, &[1, 2, 3])?, 63)?;
+    puts(&mut Arena::new(&mut literals, &mut records), &ON_ARENA)?;
     let mut table = Bitmask::new();
-    check_eq(put(&mut table, 256, &[65])?, 61)?;
-    check_eq(put(&mut table, 256, &[-64])?, 0)?;
-    check_eq(put(&mut table, 256, &[65])?, 60)?;
     for i in 1..256 {
         check_eq(put(&mut table, i, &[])?, 0)?;
     }
-    check_eq(put(&mut table, 256, &[65])?, 60)?;
-    check_eq(put(&mut table, 257, &[65])?, 61)?;
-    check_eq(put(&mut table, 257, &[64])?, 63)
+    puts(&mut table, &ON_BITMASK)
 }

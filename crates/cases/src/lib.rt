@@ -6,10 +6,16 @@ mod drive;
 #[cfg(test)]
 mod kinds;
 #[cfg(test)]
+mod lists;
+#[cfg(test)]
 mod make;
 #[cfg(test)]
 mod model;
 #[cfg(test)]
 mod random;
 #[cfg(test)]
+mod restoring;
+#[cfg(test)]
 mod texts;
+#[cfg(test)]
+mod writing;

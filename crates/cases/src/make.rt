@@ -1,4 +1,5 @@
 // What the tests make their values with.
+use arena::Arena;
 use arena::Record;
 use std::alloc::AllocError;
 use std::alloc::Global;
@@ -6,8 +7,10 @@ use std::test::*;
 use words::Clause;
 use words::ClauseNumber;
 use words::DatabaseFault;
+use words::Layer;
 use words::Limits;
 use words::Literal;
+use words::Place;
 use words::Refusal;
 
 // A clause number.
@@ -76,6 +79,33 @@ pub fn refused(told: Result<(), DatabaseFault>) -> Option<Refusal> {
     }
 }
 
+// The layer that refuses with a number.
+fn layer(number: u8) -> Layer {
+    match number {
+        20 => Layer::File,
+        24 | 25 | 27 => Layer::Load,
+        0..=19 => Layer::Open,
+        21..=28 => Layer::Formula,
+        29..=64 => Layer::Shelf,
+        65 | 66 => Layer::Roll,
+        67..=79 => Layer::Restore,
+        _ => Layer::Write,
+    }
+}
+
+// The refusal with a number; a place of 0 is none.
+pub fn refusal(number: u8, place: usize) -> Refusal {
+    Refusal {
+        number,
+        place: if place == 0 {
+            Place::Nowhere
+        } else {
+            Place::At(place)
+        },
+        layer: layer(number),
+    }
+}
+
 // A record as a memory may hold it before an arena is made over it.
 pub const OLD: Record = Record {
     number: 5,
@@ -98,6 +128,11 @@ impl Memory {
             records: vec![in heap; OLD; 1_024]?,
             text: vec![in heap; b'#'; 65_536]?,
         })
+    }
+
+    // A new arena.
+    pub fn arena(&mut self) -> Arena<'_> {
+        Arena::new(self.literals.as_mut_slice(), self.records.as_mut_slice())
     }
 }
 

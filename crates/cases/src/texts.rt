@@ -1,8 +1,8 @@
 // Formula texts: which are refused, at which line and with what, and what is read from the others.
 use crate::make::Memory;
 use crate::make::OLD;
-use crate::make::number;
 use crate::make::numbers;
+use crate::make::refusal;
 use crate::make::repeated;
 use arena::Arena;
 use arena::ArenaDatabase;
@@ -13,10 +13,9 @@ use reader::read_formula;
 use reconstruction::ReconstructionStack;
 use reconstruction::SavedEntry;
 use reconstruction::SavedLiteral;
+use std::alloc::Global;
 use std::test::*;
 use words::File;
-use words::Layer;
-use words::Place;
 use words::Refusal;
 use words::fault::FileDebug;
 use words::fault::FilePartialEq;
@@ -133,6 +132,61 @@ const GOOD: [(&str, &str); 17] = [
     ),
 ];
 
+// How reading ends: the line; the number of the refusal, or 0; its place, or 0; how many clauses stand then.
+#[derive(Clone, Copy)]
+struct End(usize, u8, usize, usize);
+
+// On an arena of four literals and two records: what load and the database refuse, and what stays of what was read before.
+const SMALL: [(&str, End); 8] = [
+    ("p cnf 2 1\n1\n-3 0\n", End(3, 24, 2, 0)),
+    ("p cnf 2 1\n1 9999999 0\n", End(2, 24, 2, 0)),
+    ("p cnf 512 1\n65537 0\n", End(2, 24, 1, 0)),
+    ("p cnf 0 2\n0\n-1 x\n", End(3, 24, 1, 1)),
+    ("p cnf 2 3\n1 0\n2\t0\n\n01\n", End(5, 23, 5, 2)),
+    ("p cnf 5 2\n1 2 3\n0\n4 5\n\n0\n", End(6, 64, 0, 1)),
+    ("p cnf 5 4\n1 2 0 3 -3 0\n0\n\n0 x", End(5, 63, 0, 2)),
+    ("p cnf 5 4\n1 2 0 3 -3 0\n0\n5 -5\n0", End(0, 0, 0, 2)),
+];
+
+// On a bitmask database.
+const MASKED: [(&str, End); 3] = [
+    ("p cnf 65 3\n-64 0\n65 -65 0\n-65 0\n", End(4, 61, 0, 1)),
+    ("p cnf 512 2\n1 2 512\n0\n", End(3, 61, 0, 0)),
+    ("p cnf 512 2\n1 2 512 -1 0\n64 0\n", End(0, 0, 0, 1)),
+];
+
+// A beginning, a part, how often it comes, an end: 65,536 bytes are read, 65,537 are not; 1,024 words before a 0 are read, 1,025
+// are not.
+const LONG: [(&str, &str, usize, &str, End); 6] = [
+    ("p cnf 1 1\n", " ", 65_524, "1\t0", End(0, 20, 0, 0)),
+    ("p cnf 1 1\n", "\n", 65_523, "1\t0", End(0, 0, 0, 1)),
+    ("p cnf 1 2\n0\n", "-1\n", 1_024, "0", End(0, 0, 0, 2)),
+    (
+        "p cnf 1 2\n0\n",
+        "-1\n",
+        1_024,
+        "2 0",
+        End(1_027, 28, 1_027, 1),
+    ),
+    (
+        "p cnf 1 2\n0\n",
+        "-1\n",
+        1_024,
+        "x 0",
+        End(1_027, 23, 1_027, 1),
+    ),
+    ("p cnf 1 1025\n", "1 0\n", 1_025, "", End(1, 22, 1, 0)),
+];
+
+// A beginning, the last number of a row from 1, an end: 64 different literals are read, 65 are not; a later fault in the list
+// comes first.
+const WIDE: [(&str, u16, &str, End); 4] = [
+    ("p cnf 66 1\n", 64, "1 64 0", End(0, 0, 0, 1)),
+    ("p cnf 66 1\n1 1 ", 65, "66\n66\n0", End(4, 25, 67, 0)),
+    ("p cnf 66 1\n", 65, "67\n0", End(2, 24, 66, 0)),
+    ("p cnf 66 1\n", 66, "-66\n0", End(0, 0, 0, 0)),
+];
+
 // Reads a text onto a new database; answers the line and the refusal, or none where it is read.
 fn read<D: ClauseDatabase>(db: &mut D, text: &[u8]) -> Result<Option<(usize, Refusal)>, Fail> {
     let mut entries: [SavedEntry; 0] = [];
@@ -147,48 +201,44 @@ fn read<D: ClauseDatabase>(db: &mut D, text: &[u8]) -> Result<Option<(usize, Ref
     }
 }
 
-// A text is refused at this line, with this number, place and layer.
-fn refuses<D: ClauseDatabase>(
-    db: &mut D,
-    text: &[u8],
-    line: usize,
-    refusal: Refusal,
-) -> Result<(), Fail> {
-    check_eq(read(db, text)?, Some((line, refusal)))
+// Reading a text onto a new database ends so.
+fn ends<D: ClauseDatabase>(db: &mut D, text: &[u8], end: End) -> Result<(), Fail> {
+    let End(line, number, place, standing) = end;
+    let expected = if number == 0 {
+        None
+    } else {
+        Some((line, refusal(number, place)))
+    };
+    check_eq(read(db, text)?, expected)?;
+    check_eq(db.count(), standing)
 }
 
-// A text is read, and this is written of it.
-fn reads_as(memory: &mut Memory, text: &[u8], written: &[u8]) -> Result<(), Fail> {
+// A text has a fault of the formula itself, at this line.
+fn is_faulty(memory: &mut Memory, text: &str, line: usize, number: u8) -> Result<(), Fail> {
+    let told = read(&mut memory.arena(), text.as_bytes())?;
+    check_eq(told, Some((line, refusal(number, line)))).note(text)
+}
+
+// A text is read onto a database, and this is written of it.
+fn is_written<D: ClauseDatabase>(db: &mut D, text: &str, written: &str) -> Result<(), Fail> {
     let mut entries: [SavedEntry; 0] = [];
     let mut literals: [SavedLiteral; 0] = [];
     let stack = ReconstructionStack::new(&mut entries, &mut literals);
-    let mut db = Arena::new(
-        memory.literals.as_mut_slice(),
-        memory.records.as_mut_slice(),
-    );
-    match read_formula(text, &mut db, &stack) {
-        Ok(session) => match write(&db, session.variables(), memory.text.as_mut_slice()) {
-            Ok(len) => check_eq(memory.text.as_slice().get(0..len), Some(written)),
-            Err(_) => Err(Fail::new("not written")),
-        },
-        Err(fault) => Err(Fail::new(fault.refusal().number)),
-    }
+    let Ok(session) = read_formula(text.as_bytes(), db, &stack) else {
+        return Err(Fail::new(text));
+    };
+    let mut buffer = [0; 64];
+    let Ok(len) = write(db, session.variables(), &mut buffer) else {
+        return Err(Fail::new(written));
+    };
+    check_eq(buffer.get(0..len), Some(written.as_bytes()))
 }
 
 #[test]
 fn faulty_texts(rt: LibcRuntime) -> Result<(), Fail> {
     let mut memory = Memory::new(rt.alloc())?;
-    for (text, line, number) in FAULTY {
-        let mut db = Arena::new(
-            memory.literals.as_mut_slice(),
-            memory.records.as_mut_slice(),
-        );
-        let refusal = Refusal {
-            number,
-            place: Place::At(line),
-            layer: Layer::Formula,
-        };
-        refuses(&mut db, text.as_bytes(), line, refusal).note(text)?;
+    for (text, line, number) in &FAULTY {
+        is_faulty(&mut memory, text, *line, *number)?;
     }
     Ok(())
 }
@@ -196,121 +246,56 @@ fn faulty_texts(rt: LibcRuntime) -> Result<(), Fail> {
 #[test]
 fn good_texts(rt: LibcRuntime) -> Result<(), Fail> {
     let mut memory = Memory::new(rt.alloc())?;
-    for (text, written) in GOOD {
-        reads_as(&mut memory, text.as_bytes(), written.as_bytes()).note(text)?;
-        reads_as(&mut memory, written.as_bytes(), written.as_bytes()).note(written)?;
+    for (text, written) in &GOOD {
+        is_written(&mut memory.arena(), text, written)?;
+        is_written(&mut memory.arena(), written, written)?;
     }
     Ok(())
 }
 
-// A refusal with no place.
-fn nowhere(number: u8, layer: Layer) -> Refusal {
-    Refusal {
-        number,
-        place: Place::Nowhere,
-        layer,
-    }
-}
-
-// A refusal of load at a position.
-fn at_load(number: u8, position: usize) -> Refusal {
-    Refusal {
-        number,
-        place: Place::At(position),
-        layer: Layer::Load,
-    }
-}
-
-// Refusals of load and of the database keep their place and layer; what was read before them stays.
 #[test]
 fn faults_below_the_text() -> Result<(), Fail> {
-    let mut literals = [0; 4];
-    let mut records = [OLD; 2];
-    let mut db = Arena::new(&mut literals, &mut records);
-    refuses(&mut db, b"p cnf 2 1\n1\n-3 0\n", 3, at_load(24, 2))?;
-    refuses(&mut db, b"p cnf 2 1\n1 9999999 0\n", 2, at_load(24, 2))?;
-    refuses(&mut db, b"p cnf 512 1\n65537 0\n", 2, at_load(24, 1))?;
-    refuses(&mut db, b"p cnf 0 2\n0\n-1 x\n", 3, at_load(24, 1))?;
-    check(db.count() == 1)?;
-    refuses(&mut db, b"p cnf 1 1\n1 0\n", 0, nowhere(10, Layer::Open))?;
-    check(db.remove(number(1)?).is_ok())?;
-    refuses(
-        &mut db,
-        b"p cnf 5 2\n1 2 3\n0\n4 5\n\n0\n",
-        6,
-        nowhere(64, Layer::Shelf),
-    )?;
-    check(db.count() == 1 && db.literal_total() == 3)
+    for (text, end) in &SMALL {
+        let mut literals = [0; 4];
+        let mut records = [OLD; 2];
+        ends(
+            &mut Arena::new(&mut literals, &mut records),
+            text.as_bytes(),
+            *end,
+        ).note(text)?;
+    }
+    Ok(())
 }
 
 #[test]
 fn faults_of_the_database() -> Result<(), Fail> {
-    let mut literals = [0; 4];
-    let mut records = [OLD; 1];
-    let mut db = Arena::new(&mut literals, &mut records);
-    refuses(
-        &mut db,
-        b"p cnf 5 3\n1 2 0 3 -3 0\n0\n",
-        3,
-        nowhere(63, Layer::Shelf),
-    )?;
-    check(db.count() == 1 && db.literal_total() == 2)?;
-    let mut table = Bitmask::new();
-    refuses(
-        &mut table,
-        b"p cnf 65 3\n-64 0\n65 -65 0\n-65 0\n",
-        4,
-        nowhere(61, Layer::Shelf),
-    )?;
-    check(table.count() == 1)
+    for (text, end) in &MASKED {
+        ends(&mut Bitmask::new(), text.as_bytes(), *end).note(text)?;
+    }
+    Ok(())
 }
 
-// 65,536 bytes are read, 65,537 are not.
+// Reading this text onto a full-size arena ends so.
+fn long_ends(heap: Global, text: &[u8], end: End) -> Result<(), Fail> {
+    ends(&mut Memory::new(heap)?.arena(), text, end)
+}
+
 #[test]
 fn long_texts(rt: LibcRuntime) -> Result<(), Fail> {
-    let mut memory = Memory::new(rt.alloc())?;
-    let most = repeated(rt.alloc(), "p cnf 1 1\n", " ", 65_524, "1\t0")?;
-    check(most.len() == 65_537)?;
-    let mut db = Bitmask::new();
-    refuses(&mut db, most.as_slice(), 0, nowhere(20, Layer::File))?;
-    let most = repeated(rt.alloc(), "p cnf 1 1\n", "\n", 65_523, "1\t0")?;
-    check(most.len() == 65_536)?;
-    reads_as(&mut memory, most.as_slice(), b"p cnf 1 1\n1 0\n")
+    let heap = rt.alloc();
+    for (start, part, times, last, end) in &LONG {
+        let text = repeated(heap, start, part, *times, last)?;
+        long_ends(heap, text.as_slice(), *end)?;
+    }
+    Ok(())
 }
 
-// 1,024 words before a 0 are read, 1,025 are not.
-#[test]
-fn many_words(rt: LibcRuntime) -> Result<(), Fail> {
-    let mut memory = Memory::new(rt.alloc())?;
-    let most = repeated(rt.alloc(), "p cnf 1 2\n0\n", "-1\n", 1_024, "0")?;
-    reads_as(&mut memory, most.as_slice(), b"p cnf 1 2\n0\n-1 0\n")?;
-    let over = Refusal {
-        number: 28,
-        place: Place::At(1_027),
-        layer: Layer::Formula,
-    };
-    let more = repeated(rt.alloc(), "p cnf 1 2\n0\n", "-1\n", 1_024, "2 0")?;
-    refuses(&mut Bitmask::new(), more.as_slice(), 1_027, over)?;
-    let worse = repeated(rt.alloc(), "p cnf 1 2\n0\n", "-1\n", 1_024, "x 0")?;
-    let no_number = Refusal { number: 23, ..over };
-    refuses(&mut Bitmask::new(), worse.as_slice(), 1_027, no_number)
-}
-
-// 64 different literals are read, 65 are not; a later fault in the list comes first.
 #[test]
 fn wide_lists(rt: LibcRuntime) -> Result<(), Fail> {
-    let mut memory = Memory::new(rt.alloc())?;
-    let most = numbers(rt.alloc(), "p cnf 66 1\n", 64, "0\n")?;
-    reads_as(&mut memory, most.as_bytes(), most.as_bytes())?;
-    let over = numbers(rt.alloc(), "p cnf 66 1\n1 1 ", 65, "66\n66\n0")?;
-    let mut db = Arena::new(
-        memory.literals.as_mut_slice(),
-        memory.records.as_mut_slice(),
-    );
-    refuses(&mut db, over.as_bytes(), 4, at_load(25, 67))?;
-    let beyond = numbers(rt.alloc(), "p cnf 66 1\n", 65, "67\n0")?;
-    refuses(&mut db, beyond.as_bytes(), 2, at_load(24, 66))?;
-    let opposite = numbers(rt.alloc(), "p cnf 66 1\n", 66, "-66\n0")?;
-    check_eq(read(&mut db, opposite.as_bytes())?, None)?;
-    check(db.count() == 0)
+    let heap = rt.alloc();
+    for (start, most, last, end) in &WIDE {
+        let text = numbers(heap, start, *most, last)?;
+        long_ends(heap, text.as_bytes(), *end)?;
+    }
+    Ok(())
 }
