@@ -1,5 +1,4 @@
 // Random numbers from a seed.
-ghost use mathlib.Core.Path.{_≡_};
 use std::alloc::AllocError;
 use std::alloc::Global;
 

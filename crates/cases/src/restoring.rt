@@ -57,20 +57,27 @@ fn told<D: ClauseDatabase>(
     }
 }
 
+// What an assignment of two variables is restored to.
+fn restored<D: ClauseDatabase>(
+    db: &D,
+    stack: &ReconstructionStack<'_>,
+    bytes: [u8; 2],
+) -> Result<[u8; 2], Fail> {
+    let mut assignment = bytes;
+    check_eq(told(db, stack, 2, &mut assignment)?, (0, 0))?;
+    Ok(assignment)
+}
+
 // The clauses of an elimination of variable 1 are repaired by the pivots of their own signs.
 #[test]
 fn eliminated() -> Result<(), Fail> {
     let mut entries = [ENTRY; 2];
     let mut literals = [LITERAL; 4];
     let mut stack = ReconstructionStack::new(&mut entries, &mut literals);
-    check_eq(save(&mut stack, 1, &[1, 2])?, 0)?;
-    check_eq(save(&mut stack, -1, &[-1, -2])?, 0)?;
-    let mut low = [0, 0];
-    check_eq(told(&Bitmask::new(), &stack, 2, &mut low)?, (0, 0))?;
-    check_eq(low, [1, 0])?;
-    let mut high = [1, 1];
-    check_eq(told(&Bitmask::new(), &stack, 2, &mut high)?, (0, 0))?;
-    check_eq(high, [0, 1])
+    let _ = save(&mut stack, 1, &[1, 2])?;
+    let _ = save(&mut stack, -1, &[-1, -2])?;
+    check_eq(restored(&Bitmask::new(), &stack, [0, 0])?, [1, 0])?;
+    check_eq(restored(&Bitmask::new(), &stack, [1, 1])?, [0, 1])
 }
 
 // The bytes of an assignment of at most three, and what restoring it tells, of a formula of two variables.
@@ -113,9 +120,7 @@ fn refused() -> Result<(), Fail> {
     for (bytes, len, refusal, place) in &REFUSED {
         refuses(&db, &stack, *bytes, *len, (*refusal, *place))?;
     }
-    let mut met = [1, 1];
-    check_eq(told(&db, &stack, 2, &mut met)?, (0, 0))?;
-    check_eq(met, [0, 1])
+    check_eq(restored(&db, &stack, [1, 1])?, [0, 1])
 }
 
 // Saves clauses of a width until it is refused; answers how many were saved, and the number of the refusal.

@@ -1,6 +1,7 @@
 // Formula texts: which are refused, at which line and with what, and what is read from the others.
 use crate::make::Memory;
 use crate::make::OLD;
+use crate::make::literal;
 use crate::make::numbers;
 use crate::make::refusal;
 use crate::make::repeated;
@@ -15,6 +16,7 @@ use reconstruction::SavedEntry;
 use reconstruction::SavedLiteral;
 use std::alloc::Global;
 use std::test::*;
+use words::Clause;
 use words::File;
 use words::Refusal;
 use words::fault::FileDebug;
@@ -187,18 +189,30 @@ const WIDE: [(&str, u16, &str, End); 4] = [
     ("p cnf 66 1\n", 66, "-66\n0", End(0, 0, 0, 0)),
 ];
 
-// Reads a text onto a new database; answers the line and the refusal, or none where it is read.
-fn read<D: ClauseDatabase>(db: &mut D, text: &[u8]) -> Result<Option<(usize, Refusal)>, Fail> {
-    let mut entries: [SavedEntry; 0] = [];
-    let mut literals: [SavedLiteral; 0] = [];
-    let stack = ReconstructionStack::new(&mut entries, &mut literals);
-    match read_formula(text, db, &stack) {
+// Reads a text; answers the line and the refusal, or none where it is read.
+fn told<D: ClauseDatabase>(
+    db: &mut D,
+    stack: &ReconstructionStack<'_>,
+    text: &[u8],
+) -> Result<Option<(usize, Refusal)>, Fail> {
+    match read_formula(text, db, stack) {
         Ok(_session) => Ok(None),
         Err(fault) => {
             check_eq(fault.file, File::Formula)?;
             Ok(Some((fault.line, fault.refusal())))
         }
     }
+}
+
+// The same with an empty stack.
+fn read<D: ClauseDatabase>(db: &mut D, text: &[u8]) -> Result<Option<(usize, Refusal)>, Fail> {
+    let mut entries: [SavedEntry; 0] = [];
+    let mut literals: [SavedLiteral; 0] = [];
+    told(
+        db,
+        &ReconstructionStack::new(&mut entries, &mut literals),
+        text,
+    )
 }
 
 // Reading a text onto a new database ends so.
@@ -298,4 +312,21 @@ fn wide_lists(rt: LibcRuntime) -> Result<(), Fail> {
         long_ends(heap, text.as_bytes(), *end)?;
     }
     Ok(())
+}
+
+// What open refuses has no line; a header that is refused comes first.
+#[test]
+fn refused_by_open() -> Result<(), Fail> {
+    let mut entries = [SavedEntry { pivot: 1, count: 0 }; 1];
+    let mut literals: [SavedLiteral; 0] = [];
+    let mut stack = ReconstructionStack::new(&mut entries, &mut literals);
+    let _ = stack.save(literal(1)?, &Clause::empty());
+    let mut db = Bitmask::new();
+    check_eq(
+        told(&mut db, &stack, b"p cnf 0 1\nx")?,
+        Some((0, refusal(11, 0))),
+    )?;
+    ends(&mut db, b"p cnf 0 1\n0", End(0, 0, 0, 1))?;
+    ends(&mut db, b"c\np cnf 0 1\nx", End(0, 10, 0, 1))?;
+    ends(&mut db, b"c\np cnf 513 1\nx", End(2, 22, 2, 1))
 }

@@ -1,6 +1,7 @@
 // Writing what stands. More than 1,024 clauses can't stand in either kind of database, so 81 is met by long texts only.
 use crate::make::Memory;
 use crate::make::clause;
+use crate::make::literal;
 use crate::make::number;
 use crate::make::range;
 use crate::make::refusal;
@@ -55,13 +56,13 @@ fn buffers() -> Result<(), Fail> {
 
 // Puts 203 clauses of 64 literals of five bytes each, and one with 30 of these and one of four or five bytes.
 fn put_long<D: ClauseDatabase>(heap: Global, db: &mut D, last: i16) -> Result<(), Fail> {
-    let wide = range(heap, -449, -512)?;
+    let wide = clause(range(heap, -449, -512)?.as_slice())?;
     for i in 1..204 {
-        check(db.put(number(i)?, &clause(wide.as_slice())?).is_ok())?;
+        check(db.put(number(i)?, &wide).is_ok())?;
     }
-    let mut list = range(heap, -400, -429)?;
-    list.push(last)?;
-    check(db.put(number(204)?, &clause(list.as_slice())?).is_ok())
+    let mut narrow = clause(range(heap, -400, -429)?.as_slice())?;
+    check(narrow.insert(literal(last)?))?;
+    check(db.put(number(204)?, &narrow).is_ok())
 }
 
 // Writes them into a buffer; answers what was told.
@@ -72,28 +73,30 @@ fn write_long(heap: Global, last: i16, buffer: &mut [u8]) -> Result<Result<usize
     Ok(written(&db, 512, buffer))
 }
 
-// A text of 65,536 bytes is written, one of 65,537 is not, whatever the buffer.
+// The last literal, the length of the buffer, and the number of the refusal, or 0: a text of 65,536 bytes is written, one of
+// 65,537 is not, whatever the buffer.
+const LONG: [(i16, usize, u8); 4] = [
+    (430, 65_536, 0),
+    (430, 65_535, 80),
+    (-430, 65_535, 81),
+    (-430, 70_000, 81),
+];
+
 #[test]
 fn long_texts(rt: LibcRuntime) -> Result<(), Fail> {
     let heap = rt.alloc();
-    let mut short = vec![in heap; b'#'; 65_535]?;
-    check_eq(
-        write_long(heap, -430, short.as_mut_slice())?,
-        Err(refusal(81, 0)),
-    )?;
-    check_eq(
-        write_long(heap, 430, short.as_mut_slice())?,
-        Err(refusal(80, 0)),
-    )?;
-    check(!short.as_slice().contains(&b'0'))?;
-    let mut buffer = vec![in heap; b'#'; 65_537]?;
-    check_eq(
-        write_long(heap, -430, buffer.as_mut_slice())?,
-        Err(refusal(81, 0)),
-    )?;
-    check(!buffer.as_slice().contains(&b'0'))?;
-    check_eq(write_long(heap, 430, buffer.as_mut_slice())?, Ok(65_536))?;
-    check(buffer.as_slice().ends_with(b" -429 430 0\n#"))
+    for (last, len, number) in &LONG {
+        let mut buffer = vec![in heap; b'#'; *len]?;
+        let told = write_long(heap, *last, buffer.as_mut_slice())?;
+        if *number == 0 {
+            check_eq(told, Ok(65_536))?;
+            check(buffer.as_slice().ends_with(b" -429 430 0\n"))?;
+        } else {
+            check_eq(told, Err(refusal(*number, 0)))?;
+            check(!buffer.as_slice().contains(&b'0'))?;
+        }
+    }
+    Ok(())
 }
 
 // A formula of 1,024 clauses, each with 16 literals, whose signs are the digits of its place in base 2.
