@@ -4,50 +4,36 @@ ghost use Rattle.acceptance.specs.Places.{RefusalPlaces};
 ghost use Rattle.acceptance.specs.Worked.{WorkedCases};
 
 // The literals of a resolvent are those that the rule of resolution names.
-pub fn resolvents_exactly() -> u8
+pub fn resolvents_exactly()
     ensures { λ _. ⌜ ResolventsExactly ⌝ }
-{
-    0
-}
+{}
 
 // A line has no fault exactly when it should be accepted.
-pub fn lines_exactly() -> u8
+pub fn lines_exactly()
     ensures { λ _. ⌜ LinesExactly ⌝ }
-{
-    0
-}
+{}
 
 // A list has no fault exactly when it should be accepted.
-pub fn lists_exactly() -> u8
+pub fn lists_exactly()
     ensures { λ _. ⌜ ListsExactly ⌝ }
-{
-    0
-}
+{}
 
 // An assignment is restored exactly when it is one of the formula's variables and meets what stands.
-pub fn restoring_exactly() -> u8
+pub fn restoring_exactly()
     ensures { λ _. ⌜ RestoringExactly ⌝ }
-{
-    0
-}
+{}
 
 // The empty clause is told exactly when it stands.
-pub fn empty_exactly() -> u8
+pub fn empty_exactly()
     ensures { λ _. ⌜ EmptyExactly ⌝ }
-{
-    0
-}
+{}
 
 // The place of a refusal is the first one at fault.
-pub fn refusal_places() -> u8
+pub fn refusal_places()
     ensures { λ _. ⌜ RefusalPlaces ⌝ }
-{
-    0
-}
+{}
 
 // The worked cases, as one result.
-pub fn worked_cases() -> u8
+pub fn worked_cases()
     ensures { λ _. ⌜ WorkedCases ⌝ }
-{
-    0
-}
+{}
