@@ -1,4 +1,7 @@
 // Theorems on the definitions of the rules: each function's contract is one of them, and its code says nothing.
+
+#![tactic(auto)]
+
 ghost use Rattle.acceptance.specs.Exactly.{ResolventsExactly, LinesExactly, ListsExactly, RestoringExactly, EmptyExactly};
 ghost use Rattle.acceptance.specs.Places.{RefusalPlaces};
 ghost use Rattle.acceptance.specs.Worked.{WorkedCases};

@@ -1,5 +1,7 @@
 // The arena, a clause database over two memories handed in: one of literals, one of records (the customers' strip).
 
+#![tactic(auto)]
+
 pub mod arena;
 mod memory;
 mod packing;

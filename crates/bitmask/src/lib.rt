@@ -1,5 +1,8 @@
 // The bitmask kind of clause database (the customers' plate): 256 slots of its own, each with two 64-bit masks, one for each sign.
 // Its limits are variables up to 64, clauses of up to 64 literals, 256 clauses, and so 16,384 literals.
+
+#![tactic(auto)]
+
 ghost use Rattle.std.specs.Prelude.{◌≡◌, [], if◌then◌else◌, None};
 ghost use Rattle.std.specs.Option.{option_map};
 ghost use Rattle.words.specs.Meanings.{lits_of};

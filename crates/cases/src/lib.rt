@@ -1,5 +1,7 @@
-// Tests that need many cases: tables of calls, and random calls of a clause database from a fixed seed, each held to a simple model of
-// its own. All of it is read for the tests only.
+// Tests that need many cases: tables of calls and texts, and random calls from a fixed seed, each held to a simple model of its
+// own. All of it is read for the tests only.
+
+#![tactic(auto)]
 
 #[cfg(test)]
 mod drive;
@@ -13,5 +15,9 @@ mod make;
 mod model;
 #[cfg(test)]
 mod random;
+#[cfg(test)]
+mod restoring;
+#[cfg(test)]
+mod texts;
 #[cfg(test)]
 mod writing;

@@ -127,3 +127,30 @@ impl Memory {
         Arena::new(self.literals.as_mut_slice(), self.records.as_mut_slice())
     }
 }
+
+// A text: its beginning, a part so many times, its end.
+pub fn repeated(
+    heap: Global,
+    start: &str,
+    part: &str,
+    times: usize,
+    end: &str,
+) -> Result<Vec<u8>, AllocError> {
+    let mut text = Vec::new(heap);
+    text.extend_from_slice(start.as_bytes())?;
+    for _ in 0..times {
+        text.extend_from_slice(part.as_bytes())?;
+    }
+    text.extend_from_slice(end.as_bytes())?;
+    Ok(text)
+}
+
+// A text: its beginning, the numbers from 1 to a last one, its end.
+pub fn numbers(heap: Global, start: &str, last: u16, end: &str) -> Result<String, AllocError> {
+    let mut text = String::from_str(heap, start)?;
+    for i in 1..last.saturating_add(1) {
+        text.push_str(format!(in heap; "{i} ")?.as_str())?;
+    }
+    text.push_str(end)?;
+    Ok(text)
+}

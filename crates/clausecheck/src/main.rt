@@ -1,69 +1,94 @@
-// clausecheck: checks a trace against a formula on a full-size arena and reconstruction stack, and prints the counts and the reduced
-// formula; after a refusal only the file, the line and the number of it.
-use anyhow::anyhow;
+// clausecheck: reads a formula onto a full-size arena, and prints the counts and the formula read back; after a refusal
+// only the file, the line and the number of it.
+
+#![tactic(auto)]
+
 use arena::{Arena, Record};
-use files::{Report, check_files};
+use database::ClauseDatabase;
+use reader::read_formula;
 use reconstruction::{ReconstructionStack, SavedEntry, SavedLiteral};
-use report::{command_line, explain, print_refusal};
-use std::fs;
+use session::{Counts, seal};
 use std::io::Write;
+use std::{env, fs};
+use words::File;
 
-// What the memory of the reconstruction stack holds before it is used.
-const NO_ENTRY: SavedEntry = SavedEntry { pivot: 0, count: 0 };
+// The path of the formula: the first argument, or formula.cnf in the current folder.
+fn formula_path(rt: &HostRuntime) -> anyhow::Result<String> {
+    let mut args = env::args(rt)?;
+    let _program = args.next();
+    match args.next() {
+        Some(path) => Ok(path),
+        None => Ok(String::from_str(rt.alloc(), "formula.cnf")?),
+    }
+}
 
-const NO_LITERAL: SavedLiteral = SavedLiteral { value: 0 };
+// The name of a file, or of the writing, in a refusal.
+fn file_name(file: File) -> &'static str {
+    match file {
+        File::Formula => "formula",
+        File::Trace => "trace",
+        File::Write => "write",
+    }
+}
 
-// Prints the counts and the first bytes of the buffer.
-fn print_report(rt: &HostRuntime, report: &Report, buffer: &[u8]) -> anyhow::Result<()> {
-    let accepted = report.counts.accepted;
-    let standing = report.counts.standing;
-    let empty = report.counts.empty;
+// Prints a refusal: the file, the line or 0, and the number.
+fn print_refusal(rt: &HostRuntime, file: File, line: usize, number: u8) -> anyhow::Result<()> {
+    let name = file_name(file);
+    println!(rt; "file line refusal")?;
+    println!(rt; "{name} {line} {number}")?;
+    Ok(())
+}
+
+// Prints the counts and the first bytes of the text.
+fn print_formula(rt: &HostRuntime, counts: &Counts, text: &[u8], len: usize) -> anyhow::Result<()> {
+    let accepted = counts.accepted;
+    let standing = counts.standing;
+    let empty = counts.empty;
     println!(rt; "accepted standing empty")?;
     println!(rt; "{accepted} {standing} {empty}")?;
-    if report.length <= buffer.len() {
-        rt.stdout().write_all(&buffer[0..report.length])?;
+    if len <= text.len() {
+        rt.stdout().write_all(&text[0..len])?;
     }
     Ok(())
 }
 
-// Checks the two texts on memory made for it, and prints what came of it.
-fn check(rt: &HostRuntime, formula: &[u8], trace: &[u8], explained: bool) -> anyhow::Result<()> {
-    let heap = rt.alloc();
-    let mut literals = vec![in heap; 0i16; 16_384]?;
-    let mut records = vec![in heap; Record::EMPTY; 1_024]?;
-    let mut entries = vec![in heap; NO_ENTRY; 2_048]?;
-    let mut saved = vec![in heap; NO_LITERAL; 16_384]?;
-    let mut marks = vec![in heap; 0u8; 1_024]?;
-    let mut buffer = vec![in heap; 0u8; 65_536]?;
-    let mut db = Arena::new(literals.as_mut_slice(), records.as_mut_slice());
-    let mut stack = ReconstructionStack::new(entries.as_mut_slice(), saved.as_mut_slice());
-    match check_files(
-        formula,
-        trace,
-        &mut db,
-        &mut stack,
-        marks.as_mut_slice(),
-        buffer.as_mut_slice(),
-    ) {
-        Ok(report) => print_report(rt, &report, buffer.as_slice()),
-        Err(fault) => {
-            print_refusal(rt, &fault)?;
-            if explained {
-                explain(rt, formula, trace, &fault)?;
-            }
-            Ok(())
-        }
+// Reads the formula onto an arena over two memories and prints it back by way of a buffer.
+fn check(
+    rt: &HostRuntime,
+    formula: &[u8],
+    literals: &mut [i16],
+    records: &mut [Record],
+    text: &mut [u8],
+) -> anyhow::Result<()> {
+    let mut no_entries: [SavedEntry; 0] = [];
+    let mut no_literals: [SavedLiteral; 0] = [];
+    let stack = ReconstructionStack::new(&mut no_entries, &mut no_literals);
+    let mut db = Arena::new(literals, records);
+    let session = match read_formula(formula, &mut db, &stack) {
+        Ok(session) => session,
+        Err(fault) => return print_refusal(rt, fault.file, fault.line, fault.refusal().number),
+    };
+    let (finished, counts) = seal(session).finish(&db);
+    match finished.write(&db, text) {
+        Ok(len) => print_formula(rt, &counts, text, len),
+        Err(fault) => print_refusal(rt, File::Write, 0, fault.refusal().number),
     }
 }
 
 fn run(rt: &HostRuntime) -> anyhow::Result<()> {
-    let given = command_line(rt)?;
-    if given.paths.len() != 0 && given.paths.len() != 2 {
-        return Err(anyhow!("usage: clausecheck [--explain] [FORMULA TRACE]"));
-    }
-    let formula = fs::read(rt, given.path(0, "formula.cnf"))?;
-    let trace = fs::read(rt, given.path(1, "trace.txt"))?;
-    check(rt, formula.as_slice(), trace.as_slice(), given.explain)
+    let path = formula_path(rt)?;
+    let formula = fs::read(rt, path.as_str())?;
+    let heap = rt.alloc();
+    let mut literals = vec![in heap; 0i16; 16_384]?;
+    let mut records = vec![in heap; Record::EMPTY; 1_024]?;
+    let mut text = vec![in heap; 0u8; 65_536]?;
+    check(
+        rt,
+        formula.as_slice(),
+        literals.as_mut_slice(),
+        records.as_mut_slice(),
+        text.as_mut_slice(),
+    )
 }
 
 fn main(rt: HostRuntime) -> anyhow::Result<()> {

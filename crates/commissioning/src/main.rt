@@ -1,5 +1,8 @@
 // commissioning: the four entries of the commissioning page for one substation. It loads the formula and compares the clause count
 // (A), sends the trace to its end (B), reads the reduced formula back (C), and restores a full switch position (D).
+
+#![tactic(auto)]
+
 mod entries;
 mod memory;
 mod page;

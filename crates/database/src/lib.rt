@@ -1,4 +1,7 @@
 // The clause database (the customers' shelf): what every kind of it answers and does, said by its meaning alone.
+
+#![tactic(auto)]
+
 ghost use Rattle.std.specs.Prelude.{◌≡◌, List, length};
 ghost use Rattle.std.specs.Option.{option_map};
 ghost use Rattle.words.specs.declared.limits.Limits.{Limits};

@@ -1,5 +1,7 @@
 // The whole task on memory handed in: a formula and a trace as texts, checked on any clause database, and the reduced formula written.
 
+#![tactic(auto)]
+
 mod checking;
 mod report;
 

@@ -2,6 +2,8 @@
 // seed are run through the calls of a session on both kinds of clause database, and after every call the answer and everything
 // that is kept are held to the judge's. All of it is read for the tests only.
 
+#![tactic(auto)]
+
 #[cfg(test)]
 mod brute;
 #[cfg(test)]

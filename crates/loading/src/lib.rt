@@ -1,5 +1,8 @@
 // The loading session: it is opened on an empty clause database and an empty reconstruction stack, and takes the clauses of a
 // formula one list after another.
+
+#![tactic(auto)]
+
 ghost use Rattle.std.specs.Prelude.{◌≤◌};
 
 mod lists;

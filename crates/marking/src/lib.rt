@@ -1,5 +1,7 @@
 // Literal marks and resolvents: whether clauses clash or one covers another is looked up in marks that are wiped when they end.
 
+#![tactic(auto)]
+
 mod marks;
 mod resolving;
 

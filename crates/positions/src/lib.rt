@@ -1,5 +1,8 @@
 // Switch positions as text: each byte `0` or `1` is the value of the next variable; spaces, tabs, carriage returns and line
 // feeds between them are passed over, and any other byte is a value that no switch can have.
+
+#![tactic(auto)]
+
 ghost use Rattle.std.specs.Prelude.{◌≡◌, length};
 ghost use Rattle.positions.specs.Values.{position_values, position_text, fronted, ReadBack};
 

@@ -1,5 +1,7 @@
 // The reader: DIMACS CNF text into a loading session on any clause database.
 
+#![tactic(auto)]
+
 mod counts;
 mod formula;
 mod gathering;

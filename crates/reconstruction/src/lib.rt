@@ -1,5 +1,7 @@
 // The reconstruction stack (the customers' roll): clauses saved with their pivots, and the restoring of an assignment from them.
 
+#![tactic(auto)]
+
 mod repair;
 mod restoring;
 pub mod saved;

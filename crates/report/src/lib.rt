@@ -1,5 +1,7 @@
 // Refusals in plain words: names, meanings and places, and how a program prints them.
 
+#![tactic(auto)]
+
 mod arguments;
 mod names;
 mod places;

@@ -1,4 +1,7 @@
 // Writing and reading a formula: each function stands for the theorem in its contract, and does nothing.
+
+#![tactic(auto)]
+
 ghost use Rattle.roundtrip.specs.ReadsBack.{ReadsBack, HoldsWhatStood, WritesTheSame, TextsTell};
 
 // What was written reads back: the same clauses in the same order.

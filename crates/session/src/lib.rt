@@ -1,6 +1,9 @@
 // The session: after loading it is sealed into a checking session, which takes proof lines, and that is finished into one that
 // restores assignments and writes the reduced formula. Each of the three is a moved type of plain numbers; clause database,
 // reconstruction stack and marks are handed to each call.
+
+#![tactic(auto)]
+
 ghost use Rattle.std.specs.Prelude.{◌≤◌};
 
 mod calls;

@@ -1,4 +1,7 @@
 // The lines of a text, and the line that a fault names.
+
+#![tactic(auto)]
+
 ghost use Rattle.std.specs.Prelude.{◌≡◌, ◌+◌, ◌≤◌, true, length, drop};
 ghost use Rattle.std.specs.Option.{option_map};
 ghost use Rattle.textlines.specs.Lines.{blank, length_to, first_end, begun, faulty_line, nth_line, text_lines};

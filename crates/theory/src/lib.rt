@@ -1,4 +1,7 @@
 // The theory of the checker: each function stands for the theorem in its contract, and does nothing.
+
+#![tactic(auto)]
+
 ghost use Rattle.rules.specs.Law.{LawOfHistories};
 ghost use Rattle.theory.specs.Soundness.{ResolventsFollow, SubsumedFollow, BlockedRepairs, EliminationKeeps, EliminationRestores};
 

@@ -1,5 +1,7 @@
 // The trace reader: proof lines as text, each submitted to a checking session before the next is read.
 
+#![tactic(auto)]
+
 mod reading;
 mod values;
 

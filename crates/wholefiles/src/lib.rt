@@ -1,6 +1,8 @@
 // Whole files with the exact printout of the program: each refusal that files can give, each boundary of the formats, and files
 // that were damaged. All of it is read for the tests only.
 
+#![tactic(auto)]
+
 #[cfg(test)]
 mod damage;
 #[cfg(test)]

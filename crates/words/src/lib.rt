@@ -1,5 +1,7 @@
 // The words of the checker: variables, literals, clause numbers, clauses, limits, proof lines, and every fault with its refusal.
 
+#![tactic(auto)]
+
 pub mod blocks;
 pub mod clause;
 pub mod convert;

@@ -21,9 +21,9 @@ fn put_header(buffer: &mut [u8], variables: u16, count: usize) -> usize
 
 // Writes the standing clauses, one a line.
 fn put_clauses<D: ClauseDatabase>(db: &D, buffer: &mut [u8], at: usize) -> usize
-    requires { at + length (clauses_text (standing db.now)) < 2 ^ 32 }
-    ensures bytes { buffer.new ≡ sets buffer.old at (clauses_text (standing db.now)) }
-    ensures end { result ≡ at + length (clauses_text (standing db.now)) }
+    requires { at + length (clauses_text (D.standing db.now)) < 2 ^ 32 }
+    ensures bytes { buffer.new ≡ sets buffer.old at (clauses_text (D.standing db.now)) }
+    ensures end { result ≡ at + length (clauses_text (D.standing db.now)) }
 {
     db.lawful();
     let mut end = at;
@@ -39,9 +39,9 @@ fn put_clauses<D: ClauseDatabase>(db: &D, buffer: &mut [u8], at: usize) -> usize
 
 // Writes the formula from the buffer's start, as far as the buffer reaches, and answers the length of the whole text.
 pub(crate) fn put_formula<D: ClauseDatabase>(db: &D, variables: u16, buffer: &mut [u8]) -> usize
-    requires { length (standing db.now) ≤ 1024 }
-    ensures bytes { length (formula_text variables (standing db.now)) ≤ length buffer.old → buffer.new ≡ fronted (formula_text variables (standing db.now)) buffer.old }
-    ensures end { result ≡ length (formula_text variables (standing db.now)) }
+    requires { length (D.standing db.now) ≤ 1024 }
+    ensures bytes { length (formula_text variables (D.standing db.now)) ≤ length buffer.old → buffer.new ≡ fronted (formula_text variables (D.standing db.now)) buffer.old }
+    ensures end { result ≡ length (formula_text variables (D.standing db.now)) }
 {
     db.lawful();
     let end = put_header(buffer, variables, db.count());

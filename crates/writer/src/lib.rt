@@ -1,4 +1,7 @@
 // The writer: the standing clauses of a clause database as DIMACS CNF text, in a buffer handed in.
+
+#![tactic(auto)]
+
 ghost use Rattle.std.specs.Prelude.{◌≡◌, length, IfOk};
 ghost use Rattle.words.specs.Checks.{fault_of, unless};
 ghost use Rattle.writer.specs.Text.{formula_text};
@@ -18,9 +21,9 @@ pub fn write<D: ClauseDatabase>(
     variables: u16,
     buffer: &mut [u8],
 ) -> Result<usize, SessionFault>
-    ensures fault { fault_of result ≡ write_fault variables (standing db.now) (length buffer.old) }
-    ensures answer { IfOk result (λ n. n ≡ length (formula_text variables (standing db.now))) }
-    ensures after { buffer.new ≡ unless (fault_of result) (fronted (formula_text variables (standing db.now)) buffer.old) buffer.old }
+    ensures fault { fault_of result ≡ write_fault variables (D.standing db.now) (length buffer.old) }
+    ensures answer { IfOk result (λ n. n ≡ length (formula_text variables (D.standing db.now))) }
+    ensures after { buffer.new ≡ unless (fault_of result) (fronted (formula_text variables (D.standing db.now)) buffer.old) buffer.old }
 {
     if db.count() > 1024 {
         return Err(SessionFault::TextTooLong);

@@ -9,15 +9,15 @@ returns-then-n-eq0 c =
 
 pub returns-then-left-eq1 : goal.returns-then-left-eq1
 returns-then-left-eq1 c =
-    line_is_here c.args.text.now c.loop-at.at c.loop-at.left _ c.line-end.ensures.value c.loop-at-test.true c.if-left-eq1.true ∙ c.loop-at.invariant.0
+    line_is_here c.args.text.now c.loop-at.at c.loop-at.left _ c.line_end.ensures.value c.loop-at-test.true c.if-left-eq1.true ∙ c.loop-at.invariant.0
 
 pub returns-then-end-text : goal.returns-then-end-text
 returns-then-end-text c =
-    no_line_behind c.args.text.now c.loop-at.at c.loop-at.left _ c.line-end.ensures.value c.if-left-eq1.false c.if-end-text.true ∙ c.loop-at.invariant.0
+    no_line_behind c.args.text.now c.loop-at.at c.loop-at.left _ c.line_end.ensures.value c.if-left-eq1.false c.if-end-text.true ∙ c.loop-at.invariant.0
 
 pub loop-at-preserved : goal.loop-at-preserved
 loop-at-preserved c =
-    let e = line_is_behind c.args.text.now c.loop-at.at c.loop-at.left _ c.line-end.ensures.value c.if-left-eq1.false c.loop-at-test.true c.line-end.ensures.fits c.if-end-text.false in
+    let e = line_is_behind c.args.text.now c.loop-at.at c.loop-at.left _ c.line_end.ensures.value c.if-left-eq1.false c.loop-at-test.true c.line_end.ensures.fits c.if-end-text.false in
     (e ∙ c.loop-at.invariant.0, omega (arith, c.loop-at.invariant.1, c.if-left-eq1.false))
 
 pub returns : goal.returns

@@ -18,4 +18,4 @@ returns-else-len-eq0 c =
     let q = to_z-of_z w16 (get_or xs (length xs - 1) (pos 0)) f in
     let r : rising 512 0 xs ≡ true = ap (rising 512 0) c.literals-literals.ensures ∙ c.args.clause.now.rises in
     let w = within_last 512 64 0 (length xs - 1) xs r (omega arith) in
-    ap (λ x. leb x 64) (c.unsigned-abs.ensures.value ∙ ap nat_abs q) ∙ sym w ∙ ap (within 64) c.literals-literals.ensures
+    ap (λ x. leb x 64) (c.unsigned_abs.ensures.value ∙ ap nat_abs q) ∙ sym w ∙ ap (within 64) c.literals-literals.ensures

@@ -5,8 +5,8 @@ use Rattle.marking.proofs.Looking.{ranged}
 use Rattle.elimination.proofs.Signed.{sign_step, sign_end}
 use Rattle.elimination.proofs.signatures.signature.Goals as goal
 
-pub invariant-of-l : goal.invariant-of-l
-invariant-of-l c =
+pub invariant_of-l : goal.invariant_of-l
+invariant_of-l c =
     let q : SFits w16 (get_or c.literals-all.result.now c.loop-x.x-index (pos 0)) = search rules in
     ranged c.literals-all.result.now c.loop-x.x-index _ (to_z-of_z w16 _ q) (ap (rising 512 0) c.literals-all.ensures ∙ c.args.clause.now.rises) c.loop-x-test.true
 

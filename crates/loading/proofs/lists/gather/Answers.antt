@@ -6,8 +6,8 @@ use Rattle.loading.proofs.Beyond.{literal_at}
 use Rattle.loading.proofs.Gathers.{gathering_more, gathering_full, gathering_all}
 use Rattle.loading.proofs.lists.gather.Goals as goal
 
-pub invariant-of-insert : goal.invariant-of-insert
-invariant-of-insert c =
+pub invariant_of-insert : goal.invariant_of-insert
+invariant_of-insert c =
     let x = get_or c.args.list.now c.loop-i.i (pos 0) in
     let f : SFits w16 x = search rules in
     let r = literal_at 512 0 c.args.list.now c.loop-i.i c.requires.literals c.loop-i-test.true in

@@ -11,8 +11,8 @@ use Rattle.loading.proofs.lists.holds_opposite_pair.Goals as goal
 pub loop-x-init : goal.loop-x-init
 loop-x-init c = (marked_none 512 1024 (replicate 1024 0) refl refl, refl, length-replicate {A = ℕ} 1024 0)
 
-pub invariant-of-l : goal.invariant-of-l
-invariant-of-l c =
+pub invariant_of-l : goal.invariant_of-l
+invariant_of-l c =
     let x = get_or c.args.list.now c.loop-x.x-index (pos 0) in
     let f : SFits w16 x = search rules in
     let r = literal_at 512 0 c.args.list.now c.loop-x.x-index c.requires c.loop-x-test.true in

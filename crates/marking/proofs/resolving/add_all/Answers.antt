@@ -9,8 +9,8 @@ use Rattle.marking.proofs.Unions.{adds_not, adds_one, adds_too_many}
 use Rattle.marking.proofs.resolving.add_all.Goals as goal
 use Rattle.marking.proofs.resolving.add_all.Goals.{else-l-except-via-then-l-except+else-not-insert, else-l-except-via-else-l-except}
 
-pub invariant-of-l : goal.invariant-of-l
-invariant-of-l c =
+pub invariant_of-l : goal.invariant_of-l
+invariant_of-l c =
     let q : SFits w16 (get_or c.literals-all.result.now c.loop-x.x-index (pos 0)) = search rules in
     ranged c.literals-all.result.now c.loop-x.x-index _ (to_z-of_z w16 _ q) (ap (rising 512 0) c.literals-all.ensures ∙ c.args.from.now.rises) c.loop-x-test.true
 

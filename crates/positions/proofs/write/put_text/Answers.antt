@@ -4,11 +4,11 @@ use Rattle.positions.proofs.write.put_text.Goals as goal
 
 pub returns : goal.returns
 returns c =
-    let a = c.put-byte-end.ensures in
-    let b = c.put-behind-2.ensures in
+    let a = c.put_byte-end.ensures in
+    let b = c.put_behind-2.ensures in
     let h : 0 < length c.args.values.now = search rules in
     record {
       count = first_end c.args.values.now h _ _ a.end b.end;
-      after = first_put c.args.values.now h c.args.buffer.now _ _ _ _ c.value-byte.ensures a.bytes a.end b.bytes;
+      after = first_put c.args.values.now h c.args.buffer.now _ _ _ _ c.value_byte.ensures a.bytes a.end b.bytes;
       back = read_back c.args.values.now;
     }

@@ -19,9 +19,9 @@ loop-i-init c =
     let all = take_all (length es) es (omega arith) in
     (ap (total entry_weight) all ∙ c.requires, omega arith, ap (λ l. restored (saved_from l (numbers c.args.literals.now)) c.args.assignment.now) all)
 
-pub overflow-sub-start : goal.overflow-sub-start
+pub overflow_sub-start : goal.overflow_sub-start
 unfolding none
-overflow-sub-start c =
+overflow_sub-start c =
     share_fits c.args.entries.now c.args.literals.now c.loop-i.i c.weight.result c.loop-i.end none (omega arith) (omega arith) c.loop-i.invariant.0 c.weight.ensures
 
 pub loop-i-preserved : goal.loop-i-preserved

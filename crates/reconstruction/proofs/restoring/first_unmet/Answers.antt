@@ -5,19 +5,19 @@ use Rattle.reconstruction.proofs.restoring.first_unmet.Goals as goal
 pub loop-number-init : goal.loop-number-init
 loop-number-init g c = clause_start _ (g.D.ClauseDatabase.standing c.args.db.now) c.args.assignment.now c.lawful.ensures
 
-pub returns-then-not-is-met : goal.returns-then-not-is-met
-returns-then-not-is-met g c =
+pub returns-then-not-is_met : goal.returns-then-not-is_met
+returns-then-not-is_met g c =
     clause_hit _ (g.D.ClauseDatabase.standing c.args.db.now) c.loop-number.at c.in-Some.number.value c.lawful.ensures c.in-Some.ensures
-    c.args.assignment.now _ c.loop-number.invariant _ _ c.in-Some-clause.ensures c.literals.ensures _ c.is-met.ensures c.if-not-is-met.true
+    c.args.assignment.now _ c.loop-number.invariant _ _ c.in-Some-clause.ensures c.literals.ensures _ c.is_met.ensures c.if-not-is_met.true
 
-pub loop-number-smaller-else-not-is-met : goal.loop-number-smaller-else-not-is-met
-loop-number-smaller-else-not-is-met g c =
+pub loop-number-smaller-else-not-is_met : goal.loop-number-smaller-else-not-is_met
+loop-number-smaller-else-not-is_met g c =
     omega (arith, rises _ (g.D.ClauseDatabase.standing c.args.db.now) c.loop-number.at c.in-Some.number.value c.lawful.ensures c.in-Some.ensures)
 
-pub loop-number-preserved-else-not-is-met : goal.loop-number-preserved-else-not-is-met
-loop-number-preserved-else-not-is-met g c =
+pub loop-number-preserved-else-not-is_met : goal.loop-number-preserved-else-not-is_met
+loop-number-preserved-else-not-is_met g c =
     clause_miss _ (g.D.ClauseDatabase.standing c.args.db.now) c.loop-number.at c.in-Some.number.value c.lawful.ensures c.in-Some.ensures
-    c.args.assignment.now _ c.loop-number.invariant _ _ c.in-Some-clause.ensures c.literals.ensures _ c.is-met.ensures c.if-not-is-met.false
+    c.args.assignment.now _ c.loop-number.invariant _ _ c.in-Some-clause.ensures c.literals.ensures _ c.is_met.ensures c.if-not-is_met.false
 
 pub loop-number-smaller : goal.loop-number-smaller
 loop-number-smaller g c =
@@ -25,7 +25,7 @@ loop-number-smaller g c =
 
 pub loop-number-preserved : goal.loop-number-preserved
 loop-number-preserved g c =
-    absurd (stands_there _ (g.D.ClauseDatabase.standing c.args.db.now) c.loop-number.at c.in-Some.number.value c.lawful.ensures c.in-Some.ensures c.in-default-clause.ensures)
+    absurd (stands_there _ (g.D.ClauseDatabase.standing c.args.db.now) c.loop-number.at c.in-Some.number.value c.lawful.ensures c.in-Some.ensures c.in_default-clause.ensures)
 
 pub returns : goal.returns
-returns g c = clause_end (g.D.ClauseDatabase.standing c.args.db.now) c.loop-number.at c.args.assignment.now _ c.in-default.ensures c.loop-number.invariant
+returns g c = clause_end (g.D.ClauseDatabase.standing c.args.db.now) c.loop-number.at c.args.assignment.now _ c.in_default.ensures c.loop-number.invariant

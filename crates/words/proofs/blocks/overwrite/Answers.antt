@@ -5,5 +5,5 @@ use Rattle.words.proofs.blocks.overwrite.Goals as goal
 
 pub returns-then-len-s : goal.returns-then-len-s
 returns-then-len-s g c =
-    put_mid-paste c.args.from _ c.args.s.now _ c.args.src.now (length c.args.src.now) c.copy-from-slice.ensures.after (omega arith) refl ∙
+    put_mid-paste c.args.from _ c.args.s.now _ c.args.src.now (length c.args.src.now) c.copy_from_slice.ensures.after (omega arith) refl ∙
     sym (overwritten_is c.args.s.now c.args.from c.args.src.now (omega arith))

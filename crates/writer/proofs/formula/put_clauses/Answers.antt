@@ -10,8 +10,8 @@ loop-number-init g c =
     let e = text_first _ _ c.lawful.ensures in
     (ap (sets c.args.buffer.now c.args.at) e, ap (λ t. c.args.at + length t) e)
 
-pub put-clause-end-requires : goal.put-clause-end-requires
-put-clause-end-requires g c =
+pub put_clause-end-requires : goal.put_clause-end-requires
+put_clause-end-requires g c =
     let e = next_end _ _ c.lawful.ensures c.loop-number.above c.in-Some.number.value c.in-Some.ensures (lits_of c.in-Some-clause.clause) c.in-Some-clause.ensures c.loop-number.end in
     let p : c.args.at + length (clauses_text (g.D.ClauseDatabase.standing c.args.db.now)) < 2 ^ 32 = c.requires in
     omega arith
@@ -27,14 +27,14 @@ loop-number-preserved-in-Some-clause g c =
     (cc, cc)
 
 pub loop-number-smaller : goal.loop-number-smaller
-loop-number-smaller g c = absurd (next_stands _ _ c.lawful.ensures c.loop-number.above c.in-Some.number.value c.in-Some.ensures c.in-default-clause.ensures)
+loop-number-smaller g c = absurd (next_stands _ _ c.lawful.ensures c.loop-number.above c.in-Some.number.value c.in-Some.ensures c.in_default-clause.ensures)
 
 pub loop-number-preserved : goal.loop-number-preserved
-loop-number-preserved g c = absurd (next_stands _ _ c.lawful.ensures c.loop-number.above c.in-Some.number.value c.in-Some.ensures c.in-default-clause.ensures)
+loop-number-preserved g c = absurd (next_stands _ _ c.lawful.ensures c.loop-number.above c.in-Some.number.value c.in-Some.ensures c.in_default-clause.ensures)
 
 pub returns : goal.returns
 returns g c =
-    let n = text_none _ _ c.lawful.ensures c.loop-number.above c.in-default.ensures in
+    let n = text_none _ _ c.lawful.ensures c.loop-number.above c.in_default.ensures in
     record {
       bytes = sym (ap (sets c.loop-number.buffer c.loop-number.end) n) ∙ c.loop-number.invariant.0;
       end = omega (arith, ap length n, c.loop-number.invariant.1);

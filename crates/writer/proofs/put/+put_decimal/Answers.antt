@@ -8,11 +8,11 @@ returns-then-n-lt10 t c =
     let f = one_digit_end c.args.buffer.now c.args.at c.args.n (omega arith) in
     record { bytes = cc; end = cc }
 
-pub put-decimal-last-requires : goal.put-decimal-last-requires
-put-decimal-last-requires t c = omega (arith, digits_more c.args.n (omega arith) (omega arith))
+pub put_decimal-last-requires : goal.put_decimal-last-requires
+put_decimal-last-requires t c = omega (arith, digits_more c.args.n (omega arith) (omega arith))
 
-pub put-byte-requires-2 : goal.put-byte-requires-2
-put-byte-requires-2 t c = omega (arith, digits_more c.args.n (omega arith) (omega arith))
+pub put_byte-requires-2 : goal.put_byte-requires-2
+put_byte-requires-2 t c = omega (arith, digits_more c.args.n (omega arith) (omega arith))
 
 pub returns : goal.returns
 returns t c =

@@ -4,8 +4,8 @@ use Rattle.std.proofs.lemmas.Int.{to_z-of_z}
 use Rattle.writer.proofs.Puts.{literals_put, literals_end, literals_none}
 use Rattle.writer.proofs.put.put_literals.Goals as goal
 
-pub put-literal-end-requires : goal.put-literal-end-requires
-put-literal-end-requires c =
+pub put_literal-end-requires : goal.put_literal-end-requires
+put_literal-end-requires c =
     let f : SFits w16 (get_or c.args.literals.now c.loop-literal.literal-index (pos 0)) = search rules in
     omega (arith, literals_end c.args.literals.now c.loop-literal.literal-index (omega arith) _ (to_z-of_z w16 _ f) c.loop-literal.end)
 

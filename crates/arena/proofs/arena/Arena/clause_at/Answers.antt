@@ -7,15 +7,15 @@ use Rattle.arena.proofs.Changes.{row_inside}
 use Rattle.arena.proofs.Rows.{laid_of, row_is, row_copied}
 use Rattle.arena.proofs.arena.Arena.clause_at.Goals as goal
 
-pub slice-bounds-overwrite-end-then-place-self : goal.slice-bounds-overwrite-end-then-place-self
-slice-bounds-overwrite-end-then-place-self c =
+pub slice_bounds-overwrite-end-then-place-self : goal.slice_bounds-overwrite-end-then-place-self
+slice_bounds-overwrite-end-then-place-self c =
     let s = c.args.self.now in
     let b = row_inside s.memory (laid_of s) c.args.place c.if-place-self.true in
     let r = s.room in
     search rules
 
-pub invariant-of-result : goal.invariant-of-result
-invariant-of-result c =
+pub invariant_of-result : goal.invariant_of-result
+invariant_of-result c =
     let s = c.args.self.now in
     let k = row_copied s.memory (laid_of s) c.args.place c.if-place-self.true _ _ s.kept refl c.overwrite.ensures in
     (k.few, (k.rises, tt))

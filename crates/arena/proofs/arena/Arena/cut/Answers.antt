@@ -6,8 +6,8 @@ use Rattle.arena.proofs.Orders.{ordered_closed}
 use Rattle.arena.proofs.Rows.{count_is, weight_is}
 use Rattle.arena.proofs.arena.Arena.cut.Goals as goal
 
-pub invariant-of-self : goal.invariant-of-self
-invariant-of-self c =
+pub invariant_of-self : goal.invariant_of-self
+invariant_of-self c =
     let s = c.args.self.now in
     let m = c.cut.new.self in
     let l = c.cut.ensures.laid in

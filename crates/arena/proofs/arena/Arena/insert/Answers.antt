@@ -49,8 +49,8 @@ after : (s : Arena) (n : ClauseNumber) (k : Clause) (i : ℕ) (es : List Entry) 
 after s n k i es f p e =
     e ∙ ap (λ j. opened (contents s.memory) j (entry_of n k ∷ [])) p ∙ sym (inserted_at (entry_of n k) (contents s.memory) n.low (vacant s n k f).absent)
 
-pub invariant-of-self : goal.invariant-of-self
-invariant-of-self c =
+pub invariant_of-self : goal.invariant_of-self
+invariant_of-self c =
     let s = c.args.self.now in
     let m = c.insert.new.self in
     let n = c.args.number in

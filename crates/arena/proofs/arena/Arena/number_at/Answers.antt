@@ -6,8 +6,8 @@ use Rattle.arena.proofs.Orders.{entry_past, lawful_at}
 use Rattle.arena.proofs.Rows.{laid_of, row_is}
 use Rattle.arena.proofs.arena.Arena.number_at.Goals as goal
 
-pub invariant-of-result : goal.invariant-of-result
-invariant-of-result c =
+pub invariant_of-result : goal.invariant_of-result
+invariant_of-result c =
     let s = c.args.self.now in
     let l = lawful_at 512 64 0 c.args.place (contents s.memory) _ s.kept (row_is s.memory (laid_of s) c.args.place (omega arith)) in
     (l.low, (l.high, tt))

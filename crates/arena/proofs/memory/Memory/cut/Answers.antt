@@ -15,8 +15,8 @@ repack-requires c =
     let f = cut_fits m l c.args.place c.requires.within _ c.cut.ensures in
     record { order = omega (arith, c.requires.within); within = omega (arith, c.cut.auto.s, l.few); fits = omega (arith, l.below) }
 
-pub overflow-sub-self-2 : goal.overflow-sub-self-2
-overflow-sub-self-2 c =
+pub overflow_sub-self-2 : goal.overflow_sub-self-2
+overflow_sub-self-2 c =
     let m = c.args.self.now in
     let l = c.requires.laid in
     omega (arith, row_inside m l c.args.place c.requires.within)

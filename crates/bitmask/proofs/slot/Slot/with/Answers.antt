@@ -10,7 +10,7 @@ returns-then-literal-gt0 c =
     let q = to_z-of_z w16 c.args.literal c.ranges.literal in
     record {
       number = refl;
-      told = with_positive s.plus s.minus c.unsigned-abs.result c.args.literal c.requires.low c.requires.high (c.unsigned-abs.ensures.value ∙ ap nat_abs q) (ap (lt_z (pos 0)) (sym q) ∙ c.if-literal-gt0.true);
+      told = with_positive s.plus s.minus c.unsigned_abs.result c.args.literal c.requires.low c.requires.high (c.unsigned_abs.ensures.value ∙ ap nat_abs q) (ap (lt_z (pos 0)) (sym q) ∙ c.if-literal-gt0.true);
     }
 
 pub returns-else-literal-gt0 : goal.returns-else-literal-gt0
@@ -19,5 +19,5 @@ returns-else-literal-gt0 c =
     let q = to_z-of_z w16 c.args.literal c.ranges.literal in
     record {
       number = refl;
-      told = with_negative s.plus s.minus c.unsigned-abs.result c.args.literal c.requires.low c.requires.high (c.unsigned-abs.ensures.value ∙ ap nat_abs q) (ap (lt_z (pos 0)) (sym q) ∙ c.if-literal-gt0.false);
+      told = with_negative s.plus s.minus c.unsigned_abs.result c.args.literal c.requires.low c.requires.high (c.unsigned_abs.ensures.value ∙ ap nat_abs q) (ap (lt_z (pos 0)) (sym q) ∙ c.if-literal-gt0.false);
     }

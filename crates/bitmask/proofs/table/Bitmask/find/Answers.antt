@@ -5,8 +5,8 @@ use Rattle.bitmask.proofs.Places.{missing}
 use Rattle.bitmask.proofs.Tables.{used_slot, place_found, place_used}
 use Rattle.bitmask.proofs.table.Bitmask.find.Goals as goal
 
-pub offset-bounds-self-at : goal.offset-bounds-self-at
-offset-bounds-self-at c =
+pub offset_bounds-self-at : goal.offset_bounds-self-at
+offset_bounds-self-at c =
     let s = c.args.self.now in
     let i = place_used s c.args.number.value c.in-Some.at c.in-Some.ensures in
     let f = s.few in
@@ -25,4 +25,4 @@ returns-in-Some c =
     ap (λ (x : Entry). Some x.lits) (sym (used_slot s c.in-Some.at i)) ∙ sym f.clause_at
 
 pub returns-in-None : goal.returns-in-None
-returns-in-None c = sym (missing c.args.number.value (standing_in c.args.self.now) (sym c.in-None.ensures)).no-clause
+returns-in-None c = sym (missing c.args.number.value (standing_in c.args.self.now) (sym c.in-None.ensures)).no_clause

@@ -28,17 +28,17 @@ after b k c x i ss p nb nc ex ei es =
     puts b x (put_entry k c) i c.len ss ex ei (omega (arith, b.counted)) (omega arith) k.low k.high (fresh mask_limits (standing_in b) (put_entry k c) p)
     (sym (length-take-le c.len c.lits (omega (arith, c.few)))) es
 
-pub invariant-of-self : goal.invariant-of-self
-invariant-of-self c =
+pub invariant_of-self : goal.invariant_of-self
+invariant_of-self c =
     let s = c.args.self.now in
     let nb : length s.slots ≡ 256 = search rules in
     let nc : length c.args.clause.now.lits ≡ 64 = search rules in
-    let a = after s c.args.number c.args.clause.now c.of.result c.place-above-at.result _ c.requires nb nc c.of.ensures c.place-above-at.ensures c.exchange.ensures in
-    (omega (arith, room s c.args.number c.args.clause.now c.requires), (a.counted, (a.kept, (a.summed, tt))))
+    let a = after s c.args.number c.args.clause.now c.of.result c.place_above-at.result _ c.requires nb nc c.of.ensures c.place_above-at.ensures c.exchange.ensures in
+    record { few = omega (arith, room s c.args.number c.args.clause.now c.requires); counted = a.counted; kept = a.kept; summed = a.summed }
 
 pub returns : goal.returns
 returns c =
     let s = c.args.self.now in
     let nb : length s.slots ≡ 256 = search rules in
     let nc : length c.args.clause.now.lits ≡ 64 = search rules in
-    (after s c.args.number c.args.clause.now c.of.result c.place-above-at.result _ c.requires nb nc c.of.ensures c.place-above-at.ensures c.exchange.ensures).means
+    (after s c.args.number c.args.clause.now c.of.result c.place_above-at.result _ c.requires nb nc c.of.ensures c.place_above-at.ensures c.exchange.ensures).means

@@ -9,8 +9,8 @@ use Rattle.elimination.proofs.signatures.SignatureTable.lists.Goals.{then-record
 nothing : Entry
 nothing = record { number = 0; lits = [] }
 
-pub invariant-of-number : goal.invariant-of-number
-invariant-of-number g c = record_number _ _ _ c.lawful.ensures.in_order c.args.self.now.records c.args.self.now.len c.requires.reached c.requires.listed c.loop-i.i c.loop-i-test.true nothing _
+pub invariant_of-number : goal.invariant_of-number
+invariant_of-number g c = record_number _ _ _ c.lawful.ensures.in_order c.args.self.now.records c.args.self.now.len c.requires.reached c.requires.listed c.loop-i.i c.loop-i-test.true nothing _
 
 pub returns-then-equal-at : goal.returns-then-equal-at
 returns-then-equal-at g c = record_hit _ _ _ c.lawful.ensures.in_order c.args.self.now.records c.args.self.now.len c.requires.reached c.requires.listed c.loop-i.i c.loop-i-test.true nothing (record { number = 0; signature = 0 }) (lits_of c.args.clause.now) _ (sym c.equal-at.ensures ∙ c.if-equal-at.true) c.loop-i.invariant

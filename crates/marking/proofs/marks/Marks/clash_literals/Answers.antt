@@ -4,8 +4,8 @@ use Rattle.marking.proofs.Looking.{ranged, clash_found, clash_passed, clash_exce
 use Rattle.marking.proofs.marks.Marks.clash_literals.Goals as goal
 use Rattle.marking.proofs.marks.Marks.clash_literals.Goals.{then-l-except+else-has, else-l-except}
 
-pub invariant-of-l : goal.invariant-of-l
-invariant-of-l c =
+pub invariant_of-l : goal.invariant_of-l
+invariant_of-l c =
     let q : SFits w16 (get_or c.args.all.now c.loop-x.x-index (pos 0)) = search rules in
     ranged c.args.all.now c.loop-x.x-index _ (to_z-of_z w16 _ q) c.requires c.loop-x-test.true
 

@@ -3,8 +3,8 @@ use Rattle.std.proofs.lemmas.Int.{to_z-of_z}
 use Rattle.marking.proofs.Looking.{ranged, cover_failed, cover_passed, cover_end}
 use Rattle.marking.proofs.marks.Marks.cover_literals.Goals as goal
 
-pub invariant-of-l : goal.invariant-of-l
-invariant-of-l c =
+pub invariant_of-l : goal.invariant_of-l
+invariant_of-l c =
     let q : SFits w16 (get_or c.args.all.now c.loop-x.x-index (pos 0)) = search rules in
     ranged c.args.all.now c.loop-x.x-index _ (to_z-of_z w16 _ q) c.requires c.loop-x-test.true
 

@@ -9,8 +9,8 @@ returns-then-start-end c =
     let p = no_word s.text.now s.at _ s.line c.word-end-end.ensures s.within s.counted c.if-start-end.true c.skip-blanks.ensures.stops in
     record { text = c.skip-blanks.ensures.text; words = sym c.skip-blanks.ensures.words ∙ p.0; onward = at_end s.text.now s.at s.line p.1 }
 
-pub invariant-of-self : goal.invariant-of-self
-invariant-of-self c =
+pub invariant_of-self : goal.invariant_of-self
+invariant_of-self c =
     let s = c.skip-blanks.new.self in (
       s.few,
       (

@@ -6,8 +6,8 @@ use Rattle.reader.proofs.scanner.Scanner.step.Goals as goal
 pub line-behind-self-requires : goal.line-behind-self-requires
 line-behind-self-requires c = omega (arith, c.args.self.now.few, past_small c.args.self.now.text.now c.args.self.now.at c.args.self.now.line c.args.self.now.counted (omega arith))
 
-pub invariant-of-self : goal.invariant-of-self
-invariant-of-self c =
+pub invariant_of-self : goal.invariant_of-self
+invariant_of-self c =
     let s = c.args.self.now in
     let e = past_more s.text.now s.at 1 (omega arith) in
     let k = s.counted in

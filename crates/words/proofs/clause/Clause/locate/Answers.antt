@@ -13,8 +13,8 @@ returns-then-w-v c =
     let e = c.literals-x-items.ensures in
     let f : SFits w16 x = search rules in
     let g : SFits w16 c.args.l.value = search rules in
-    let wx = c.unsigned-abs-w.ensures.value ∙ ap nat_abs (to_z-of_z w16 x f) in
-    let vz = c.unsigned-abs-v.ensures.value ∙ ap nat_abs (to_z-of_z w16 c.args.l.value g) in
+    let wx = c.unsigned_abs-w.ensures.value ∙ ap nat_abs (to_z-of_z w16 x f) in
+    let vz = c.unsigned_abs-v.ensures.value ∙ ap nat_abs (to_z-of_z w16 c.args.l.value g) in
     let n : length s.lits ≡ 64 = search rules in
     record {
       spot = located_free 512 c.args.l.value c.args.l.low c.args.l.high (take s.len s.lits) c.loop-i.i x (omega (arith, ap length e)) (ap (λ l. get_or l c.loop-i.i (pos 0)) e) s.rises c.loop-i.invariant (omega (arith, wx, vz));
@@ -40,8 +40,8 @@ returns-then-w-v-2 c =
     let e = c.literals-x-items.ensures in
     let f : SFits w16 x = search rules in
     let g : SFits w16 c.args.l.value = search rules in
-    let wx = c.unsigned-abs-w.ensures.value ∙ ap nat_abs (to_z-of_z w16 x f) in
-    let vz = c.unsigned-abs-v.ensures.value ∙ ap nat_abs (to_z-of_z w16 c.args.l.value g) in
+    let wx = c.unsigned_abs-w.ensures.value ∙ ap nat_abs (to_z-of_z w16 x f) in
+    let vz = c.unsigned_abs-v.ensures.value ∙ ap nat_abs (to_z-of_z w16 c.args.l.value g) in
     let n : length s.lits ≡ 64 = search rules in
     record {
       spot = located_opposite 512 c.args.l.value c.args.l.low c.args.l.high (take s.len s.lits) c.loop-i.i x (omega (arith, ap length e)) (ap (λ l. get_or l c.loop-i.i (pos 0)) e) s.rises c.loop-i.invariant (omega (arith, wx, vz)) (λ q. c.if-x-l.false (ap (of_z w16) q));
@@ -55,8 +55,8 @@ loop-i-preserved c =
     let e = c.literals-x-items.ensures in
     let f : SFits w16 x = search rules in
     let g : SFits w16 c.args.l.value = search rules in
-    let wx = c.unsigned-abs-w.ensures.value ∙ ap nat_abs (to_z-of_z w16 x f) in
-    let vz = c.unsigned-abs-v.ensures.value ∙ ap nat_abs (to_z-of_z w16 c.args.l.value g) in
+    let wx = c.unsigned_abs-w.ensures.value ∙ ap nat_abs (to_z-of_z w16 x f) in
+    let vz = c.unsigned_abs-v.ensures.value ∙ ap nat_abs (to_z-of_z w16 c.args.l.value g) in
     lower_more 512 c.args.l.value c.args.l.low c.args.l.high (take s.len s.lits) c.loop-i.i x (omega (arith, ap length e)) (ap (λ l. get_or l c.loop-i.i (pos 0)) e) s.rises c.loop-i.invariant (omega (arith, wx, vz))
 
 pub returns : goal.returns
