@@ -12,7 +12,7 @@ use Rattle.marking.proofs.resolving.add_all.Goals.{else-l-except-via-then-l-exce
 pub invariant_of-l : goal.invariant_of-l
 invariant_of-l c =
     let q : SFits w16 (get_or c.literals-all.result.now c.loop-x.x-index (pos 0)) = search rules in
-    ranged c.literals-all.result.now c.loop-x.x-index _ (to_z-of_z w16 _ q) (ap (rising 512 0) c.literals-all.ensures ∙ c.args.from.now.rises) c.loop-x-test.true
+    (let all = ranged c.literals-all.result.now c.loop-x.x-index _ (to_z-of_z w16 _ q) (ap (rising 512 0) c.literals-all.ensures ∙ c.args.from.now.rises) c.loop-x-test.true in (record { low = all.0; high = all.1 }))
 
 pub returns-then-not-insert : goal.returns-then-not-insert
 returns-then-not-insert c plain =

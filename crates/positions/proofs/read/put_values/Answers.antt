@@ -9,14 +9,14 @@ pub loop-byte-preserved : goal.loop-byte-preserved
 loop-byte-preserved c =
     elim c.if-not-is_blank.branch [
       | then-not-is_blank w ↦
-          let t = sym c.is-blank.ensures ∙ w.if-not-is-blank.true in
-          let a = w.put-byte-count.ensures in (
-            put_value c.args.text.now c.loop-byte.byte-index c.loop-byte-test.true c.loop-byte.values _ c.loop-byte.count _ t _ w.value-of.ensures (w.values-is ∙ a.bytes) (w.count-is ∙ a.end) ∙ c.loop-byte.invariant.0,
-            end_value c.args.text.now c.loop-byte.byte-index c.loop-byte-test.true c.loop-byte.values _ c.loop-byte.count _ t _ w.value-of.ensures (w.values-is ∙ a.bytes) (w.count-is ∙ a.end) ∙ c.loop-byte.invariant.1,
+          let t = sym c.is_blank.ensures ∙ w.if-not-is_blank.true in
+          let a = w.put_byte-count.ensures in (
+            put_value c.args.text.now c.loop-byte.byte-index c.loop-byte-test.true c.loop-byte.values _ c.loop-byte.count _ t _ w.value_of.ensures (w.values-is ∙ a.bytes) (w.count-is ∙ a.end) ∙ c.loop-byte.invariant.0,
+            end_value c.args.text.now c.loop-byte.byte-index c.loop-byte-test.true c.loop-byte.values _ c.loop-byte.count _ t _ w.value_of.ensures (w.values-is ∙ a.bytes) (w.count-is ∙ a.end) ∙ c.loop-byte.invariant.1,
             omega (arith, w.count-is, a.end, c.loop-byte.invariant.2),
           )
       | else-not-is_blank w ↦
-          let t = sym c.is-blank.ensures ∙ w.if-not-is-blank.false in (
+          let t = sym c.is_blank.ensures ∙ w.if-not-is_blank.false in (
             put_blank c.args.text.now c.loop-byte.byte-index c.loop-byte-test.true c.loop-byte.values _ c.loop-byte.count _ t w.values-is w.count-is ∙ c.loop-byte.invariant.0,
             end_blank c.args.text.now c.loop-byte.byte-index c.loop-byte-test.true c.loop-byte.values _ c.loop-byte.count _ t w.values-is w.count-is ∙ c.loop-byte.invariant.1,
             omega (arith, w.count-is, c.loop-byte.invariant.2),

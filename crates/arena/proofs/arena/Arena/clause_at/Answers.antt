@@ -18,7 +18,7 @@ pub invariant_of-result : goal.invariant_of-result
 invariant_of-result c =
     let s = c.args.self.now in
     let k = row_copied s.memory (laid_of s) c.args.place c.if-place-self.true _ _ s.kept refl c.overwrite.ensures in
-    (k.few, (k.rises, tt))
+    record { few = k.few; rises = k.rises }
 
 pub returns-then-place-self : goal.returns-then-place-self
 returns-then-place-self c =

@@ -15,4 +15,4 @@ invariant_of-self c =
     let o = ordered_closed 512 64 0 c.args.place (contents s.memory) s.kept in
     let n = count_is m l in
     let k = length_closed (contents s.memory) c.args.place 1 in
-    (l.few, (l.room, (l.below, (l.sum, (l.packs, (omega (arith, n, ap length e, s.counts, s.most), (ap (ordered 512 64 0) e ∙ o, (n, (weight_is m l, tt)))))))))
+    record { few = l.few; room = l.room; below = l.below; sum = l.sum; packs = l.packs; most = omega (arith, n, ap length e, s.counts, s.most); kept = ap (ordered 512 64 0) e ∙ o; counts = n; weighs = weight_is m l }

@@ -61,7 +61,7 @@ invariant_of-self c =
     let o = ordered_inserted 512 64 0 (entry_of n k) (contents s.memory) s.kept n.low (number_right n) (clause_canonical k) f.absent in
     let t = count_is m l in
     let w = ap length c.insert.ensures.means ∙ length_opened (contents s.memory) c.args.place (entry_of n k ∷ []) in
-    (l.few, (l.room, (l.below, (l.sum, (l.packs, (omega (arith, t, w, f.few), (ap (ordered 512 64 0) e ∙ o, (t, (weight_is m l, tt)))))))))
+    record { few = l.few; room = l.room; below = l.below; sum = l.sum; packs = l.packs; most = omega (arith, t, w, f.few); kept = ap (ordered 512 64 0) e ∙ o; counts = t; weighs = weight_is m l }
 
 pub returns : goal.returns
 returns c =

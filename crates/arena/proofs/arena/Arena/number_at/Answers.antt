@@ -10,7 +10,7 @@ pub invariant_of-result : goal.invariant_of-result
 invariant_of-result c =
     let s = c.args.self.now in
     let l = lawful_at 512 64 0 c.args.place (contents s.memory) _ s.kept (row_is s.memory (laid_of s) c.args.place (omega arith)) in
-    (l.low, (l.high, tt))
+    record { low = l.low; high = l.high }
 
 pub returns-then-place-self : goal.returns-then-place-self
 returns-then-place-self c =

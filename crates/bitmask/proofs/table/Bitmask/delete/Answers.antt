@@ -9,7 +9,7 @@ use Rattle.bitmask.proofs.table.Bitmask.delete.Goals as goal
 pub returns-in_default : goal.returns-in_default
 returns-in_default c =
     let s = c.args.self.now in
-    record { stood = sym (missing c.args.number.value (standing_in s) (sym c.in_default.ensures)).absent-number; after = refl }
+    record { stood = sym (missing c.args.number.value (standing_in s) (sym c.in_default.ensures)).absent_number; after = refl }
 
 pub offset_bounds-self-at : goal.offset_bounds-self-at
 offset_bounds-self-at c =

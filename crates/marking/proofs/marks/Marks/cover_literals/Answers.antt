@@ -6,7 +6,7 @@ use Rattle.marking.proofs.marks.Marks.cover_literals.Goals as goal
 pub invariant_of-l : goal.invariant_of-l
 invariant_of-l c =
     let q : SFits w16 (get_or c.args.all.now c.loop-x.x-index (pos 0)) = search rules in
-    ranged c.args.all.now c.loop-x.x-index _ (to_z-of_z w16 _ q) c.requires c.loop-x-test.true
+    (let all = ranged c.args.all.now c.loop-x.x-index _ (to_z-of_z w16 _ q) c.requires c.loop-x-test.true in (record { low = all.0; high = all.1 }))
 
 pub returns-then-not-has : goal.returns-then-not-has
 returns-then-not-has c =

@@ -11,7 +11,7 @@ loop-x-init c = (refl, refl)
 pub invariant_of-l : goal.invariant_of-l
 invariant_of-l c =
     let q : SFits w16 (get_or c.args.all.now c.loop-x.x-index (pos 0)) = search rules in
-    ranged c.args.all.now c.loop-x.x-index _ (to_z-of_z w16 _ q) c.requires c.loop-x-test.true
+    (let all = ranged c.args.all.now c.loop-x.x-index _ (to_z-of_z w16 _ q) c.requires c.loop-x-test.true in (record { low = all.0; high = all.1 }))
 
 pub loop-x-preserved : goal.loop-x-preserved
 loop-x-preserved c =
@@ -19,9 +19,9 @@ loop-x-preserved c =
     let rest = drop (c.loop-x.x-index + 1) c.args.all.now in
     elim c.if-place-self.branch [
       | then-place-self w ↦
-          (ap (λ s. with_marks s.bytes.now rest) w.self-is ∙ mark_step c.loop-x.self.bytes.now c.args.all.now c.loop-x.x-index c.loop-x-test.true _ (to_z-of_z w16 _ q) _ c.mark-place-place.ensures.value _ c.loop-x.invariant.0, ap (λ s. s.bytes.ghost_name) w.self-is ∙ c.loop-x.invariant.1)
+          (ap (λ s. with_marks s.bytes.now rest) w.self-is ∙ mark_step c.loop-x.self.bytes.now c.args.all.now c.loop-x.x-index c.loop-x-test.true _ (to_z-of_z w16 _ q) _ c.mark_place-place.ensures.value _ c.loop-x.invariant.0, ap (λ s. s.bytes.ghost_name) w.self-is ∙ c.loop-x.invariant.1)
       | else-place-self w ↦
-          (ap (λ s. with_marks s.bytes.now rest) w.self-is ∙ mark_skip c.loop-x.self.bytes.now c.args.all.now c.loop-x.x-index c.loop-x-test.true _ (to_z-of_z w16 _ q) _ c.mark-place-place.ensures.value w.if-place-self.false _ c.loop-x.invariant.0, ap (λ s. s.bytes.ghost_name) w.self-is ∙ c.loop-x.invariant.1)
+          (ap (λ s. with_marks s.bytes.now rest) w.self-is ∙ mark_skip c.loop-x.self.bytes.now c.args.all.now c.loop-x.x-index c.loop-x-test.true _ (to_z-of_z w16 _ q) _ c.mark_place-place.ensures.value w.if-place-self.false _ c.loop-x.invariant.0, ap (λ s. s.bytes.ghost_name) w.self-is ∙ c.loop-x.invariant.1)
     ]
 
 pub returns : goal.returns

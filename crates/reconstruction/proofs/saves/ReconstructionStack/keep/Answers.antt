@@ -20,7 +20,7 @@ invariant_of-self c =
     let n : c.args.clause.now.len ≡ length (lits_of c.args.clause.now) = search rules in
     let f : SFits w16 c.args.pivot.value = search rules in
     let m = c.push_literals.ensures.items ∙ ap (λ zs. numbers (items s.literals) ++ zs) c.literals.ensures in
-    (adds_up (items s.entries) (items s.literals) c.args.pivot.value (lits_of c.args.clause.now) (room_of s) s.adds_up c.requires _ _ _ c.push.ensures.items m (to_z-of_z w16 _ f) n, tt)
+    record { adds_up = adds_up (items s.entries) (items s.literals) c.args.pivot.value (lits_of c.args.clause.now) (room_of s) s.adds_up c.requires _ _ _ c.push.ensures.items m (to_z-of_z w16 _ f) n }
 
 pub returns : goal.returns
 returns c =
