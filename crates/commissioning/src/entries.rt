@@ -63,8 +63,8 @@ pub fn send<D: ClauseDatabase>(
 
 // Loads a formula onto a second arena and finishes at once; with how many lists it has.
 fn load_again<D: ClauseDatabase>(formula: &[u8], db: &mut D) -> Option<(Finished, u16)>
-    ensures answer { LoadedAgain (read_text (limited db.old) (standing db.old) [] formula.now) result }
-    ensures entries { standing db.new ≡ (read_text (limited db.old) (standing db.old) [] formula.now).entries }
+    ensures answer { LoadedAgain (read_text (D.limited db.old) (D.standing db.old) [] formula.now) result }
+    ensures entries { D.standing db.new ≡ (read_text (D.limited db.old) (D.standing db.old) [] formula.now).entries }
 {
     let mut no_entries: [SavedEntry; 0] = [];
     let mut no_literals: [SavedLiteral; 0] = [];
@@ -86,7 +86,7 @@ fn is_written(buffer: &[u8], len: usize, text: &[u8]) -> bool
 
 // Whether a text, read onto a second arena and written again, has the same bytes; and how many clauses it has.
 fn same_again<D: ClauseDatabase>(text: &[u8], db: &mut D, again: &mut [u8]) -> (bool, u16)
-    ensures { SameAgain (read_text (limited db.old) (standing db.old) [] text.now) text.now result }
+    ensures { SameAgain (read_text (D.limited db.old) (D.standing db.old) [] text.now) text.now result }
 {
     let Some((finished, clauses)) = load_again(text, db) else {
         return (false, 0);
@@ -134,7 +134,7 @@ fn of_writer(fault: SessionFault) -> LocatedFault
 
 // Whether a position meets every clause of the formula, which is loaded again; and how many lists it has.
 fn meets_formula<D: ClauseDatabase>(formula: &[u8], db: &mut D, position: &mut [u8]) -> (bool, u16)
-    ensures met { Meets (read_text (limited db.old) (standing db.old) [] formula.now) position.old result }
+    ensures met { Meets (read_text (D.limited db.old) (D.standing db.old) [] formula.now) position.old result }
     ensures same { position.new ≡ position.old }
 {
     let mut no_entries: [SavedEntry; 0] = [];

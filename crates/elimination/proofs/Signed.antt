@@ -120,13 +120,13 @@ module _ (n w : ℕ) (s : List Entry) (o : ordered n w 0 s ≡ true) (rs : List 
       sym (get_or-take len rs i b h) ∙ ap (λ ys. get_or ys i b) l ∙ get_or-map signed_of (take len s) i d b shorter ∙
       ap signed_of (get_or-take len s i d h)
 
-  pub record_number : (1 ≤ (get_or rs i b).number) × (((get_or rs i b).number ≤ 1000000) × Unit {0})
+  pub record_number : (1 ≤ (get_or rs i b).number) × ((get_or rs i b).number ≤ 1000000)
   record_number =
       let p = ordered_at n w 0 s i d o (omega arith) in
       let q = ap (λ r. r.number) at_place in
       let p0 = p.0 in
       let p1 = p.1 in
-      (omega arith, (omega arith, tt))
+      (omega arith, omega arith)
 
   -- the entry there is compared, and then those after it
   record_compares : (c : List ℤ) → some_equal c (drop i (take len s)) ≡ (equal_to c (under (get_or rs i b).number s) || some_equal c (drop (i + 1) (take len s)))

@@ -21,8 +21,8 @@ fn pair_covered<D: ClauseDatabase>(
     pivot: Literal,
 ) -> bool
     requires marked { Marked 512 marks.now.bytes.now (lits_of first.now) }
-    requires tabled { Tabled table.now (standing db.now) }
-    ensures { result ≡ covered pivot.value (standing db.now) (lits_of first.now) (lits_of second.now) }
+    requires tabled { Tabled table.now (D.standing db.now) }
+    ensures { result ≡ covered pivot.value (D.standing db.now) (lits_of first.now) (lits_of second.now) }
 {
     db.lawful();
     if marks.clash(second, pivot.negated()) {
@@ -42,8 +42,8 @@ pub(crate) fn first_uncovered<D: ClauseDatabase>(
     pivot: Literal,
 ) -> Option<(u32, u32)>
     requires marks { clean_marks bytes.old ≡ true }
-    requires tabled { Tabled table.now (standing db.now) }
-    ensures pair { result ≡ first_uncovered pivot.value (standing db.now) (side pivot.value (standing db.now)) (side (neg_ℤ pivot.value) (standing db.now)) }
+    requires tabled { Tabled table.now (D.standing db.now) }
+    ensures pair { result ≡ first_uncovered pivot.value (D.standing db.now) (side pivot.value (D.standing db.now)) (side (neg_ℤ pivot.value) (D.standing db.now)) }
     ensures marks { bytes.new ≡ bytes.old }
 {
     db.lawful();

@@ -19,8 +19,8 @@ use words::{Clause, Literal, SessionFault, StackFault};
 
 // How many standing clauses are of the pivot's variable, and how many literals they have together.
 fn totals<D: ClauseDatabase>(db: &D, pivot: Literal) -> (usize, usize)
-    ensures clauses { result.0 ≡ length (eliminated pivot.value (standing db.now)) }
-    ensures literals { result.1 ≡ saved_literals (eliminated pivot.value (standing db.now)) }
+    ensures clauses { result.0 ≡ length (eliminated pivot.value (D.standing db.now)) }
+    ensures literals { result.1 ≡ saved_literals (eliminated pivot.value (D.standing db.now)) }
 {
     db.lawful();
     let holding = Holding::Either(pivot);
@@ -47,8 +47,8 @@ fn held(clause: &Clause, pivot: Literal) -> Literal
 
 // Saves every standing clause of the pivot's variable, by rising number, where all of them fit.
 fn save_all<D: ClauseDatabase>(db: &D, stack: &mut ReconstructionStack<'_>, pivot: Literal)
-    requires { save_fault (room_of stack.old) (saved stack.old) (eliminated pivot.value (standing db.now)) ≡ None }
-    ensures saved { saved stack.new ≡ saved stack.old ++ eliminated pivot.value (standing db.now) }
+    requires { save_fault (room_of stack.old) (saved stack.old) (eliminated pivot.value (D.standing db.now)) ≡ None }
+    ensures saved { saved stack.new ≡ saved stack.old ++ eliminated pivot.value (D.standing db.now) }
     ensures room { room_of stack.new ≡ room_of stack.old }
 {
     db.lawful();
@@ -62,8 +62,8 @@ fn save_all<D: ClauseDatabase>(db: &D, stack: &mut ReconstructionStack<'_>, pivo
 
 // Takes every standing clause of the pivot's variable away.
 fn remove_all<D: ClauseDatabase>(db: &mut D, pivot: Literal)
-    ensures after { standing db.new ≡ free_of pivot.value (standing db.old) }
-    ensures limits { limited db.new ≡ limited db.old }
+    ensures after { D.standing db.new ≡ free_of pivot.value (D.standing db.old) }
+    ensures limits { D.limited db.new ≡ D.limited db.old }
 {
     db.lawful();
     let holding = Holding::Either(pivot);
@@ -77,7 +77,7 @@ fn remove_all<D: ClauseDatabase>(db: &mut D, pivot: Literal)
 // Judges the line with nothing changed: whether every pair is covered.
 fn judge<D: ClauseDatabase>(db: &D, bytes: &mut [u8], pivot: Literal) -> Result<(), SessionFault>
     requires { clean_marks bytes.old ≡ true }
-    ensures judged { fault_of result ≡ eliminate_fault (standing db.now) (e_line pivot.value) }
+    ensures judged { fault_of result ≡ eliminate_fault (D.standing db.now) (e_line pivot.value) }
     ensures marks { bytes.new ≡ bytes.old }
 {
     let table = SignatureTable::new(db);
@@ -93,8 +93,8 @@ fn save_clauses<D: ClauseDatabase>(
     stack: &mut ReconstructionStack<'_>,
     pivot: Literal,
 ) -> Result<(), StackFault>
-    ensures fault { fault_of result ≡ save_fault (room_of stack.old) (saved stack.old) (eliminated pivot.value (standing db.now)) }
-    ensures after { saved stack.new ≡ unless (fault_of result) (saved stack.old ++ eliminated pivot.value (standing db.now)) (saved stack.old) }
+    ensures fault { fault_of result ≡ save_fault (room_of stack.old) (saved stack.old) (eliminated pivot.value (D.standing db.now)) }
+    ensures after { saved stack.new ≡ unless (fault_of result) (saved stack.old ++ eliminated pivot.value (D.standing db.now)) (saved stack.old) }
     ensures room { room_of stack.new ≡ room_of stack.old }
 {
     let (clauses, literals) = totals(db, pivot);
@@ -111,10 +111,10 @@ pub fn eliminate<D: ClauseDatabase>(
     bytes: &mut [u8],
     pivot: Literal,
 ) -> Result<(), SessionFault>
-    ensures fault { fault_of result ≡ elimination_fault bytes.old (room_of stack.old) (standing db.old) (saved stack.old) pivot.value }
-    ensures database { standing db.new ≡ unless (fault_of result) (free_of pivot.value (standing db.old)) (standing db.old) }
-    ensures limits { limited db.new ≡ limited db.old }
-    ensures stack { saved stack.new ≡ unless (fault_of result) (saved stack.old ++ eliminated pivot.value (standing db.old)) (saved stack.old) }
+    ensures fault { fault_of result ≡ elimination_fault bytes.old (room_of stack.old) (D.standing db.old) (saved stack.old) pivot.value }
+    ensures database { D.standing db.new ≡ unless (fault_of result) (free_of pivot.value (D.standing db.old)) (D.standing db.old) }
+    ensures limits { D.limited db.new ≡ D.limited db.old }
+    ensures stack { saved stack.new ≡ unless (fault_of result) (saved stack.old ++ eliminated pivot.value (D.standing db.old)) (saved stack.old) }
     ensures room { room_of stack.new ≡ room_of stack.old }
     ensures marks { bytes.new ≡ bytes.old }
 {

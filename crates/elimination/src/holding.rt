@@ -36,7 +36,7 @@ impl Holding {
 
     // The first standing clause above a number that is looked for, or none.
     pub(crate) fn next<D: ClauseDatabase>(&self, db: &D, after: u32) -> Option<Numbered>
-        ensures { option_map entry_of result ≡ first_passing (wants self.now) (above after (standing db.now)) }
+        ensures { option_map entry_of result ≡ first_passing (wants self.now) (above after (D.standing db.now)) }
     {
         db.lawful();
         let mut at = after;

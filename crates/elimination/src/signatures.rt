@@ -47,7 +47,7 @@ fn clause_equal(a: &Clause, b: &Clause) -> bool
 
 // Whether the clause under a number is equal to a clause.
 fn equal_at<D: ClauseDatabase>(db: &D, number: ClauseNumber, clause: &Clause) -> bool
-    ensures { result ≡ equal_to (lits_of clause.now) (under number.value (standing db.now)) }
+    ensures { result ≡ equal_to (lits_of clause.now) (under number.value (D.standing db.now)) }
 {
     match db.clause(number) {
         Some(found) => clause_equal(&found, clause),
@@ -57,7 +57,7 @@ fn equal_at<D: ClauseDatabase>(db: &D, number: ClauseNumber, clause: &Clause) ->
 
 // The number with the signature of the clause under it.
 fn signed_at<D: ClauseDatabase>(db: &D, number: ClauseNumber) -> SignedNumber
-    ensures { result ≡ signed_under number.value (under number.value (standing db.now)) }
+    ensures { result ≡ signed_under number.value (under number.value (D.standing db.now)) }
 {
     let signature = match db.clause(number) {
         Some(found) => signature(&found),
@@ -71,7 +71,7 @@ fn signed_at<D: ClauseDatabase>(db: &D, number: ClauseNumber) -> SignedNumber
 
 // Whether a clause is equal to a standing one above a number.
 fn stands_above<D: ClauseDatabase>(db: &D, after: u32, clause: &Clause) -> bool
-    ensures { result ≡ some_equal (lits_of clause.now) (above after (standing db.now)) }
+    ensures { result ≡ some_equal (lits_of clause.now) (above after (D.standing db.now)) }
 {
     db.lawful();
     let mut at = after;
@@ -87,7 +87,7 @@ fn stands_above<D: ClauseDatabase>(db: &D, after: u32, clause: &Clause) -> bool
 impl SignatureTable {
     // The table of what stands.
     pub(crate) fn new<D: ClauseDatabase>(db: &D) -> SignatureTable
-        ensures { Tabled result (standing db.now) }
+        ensures { Tabled result (D.standing db.now) }
     {
         db.lawful();
         let mut records = [SignedNumber {
@@ -109,8 +109,8 @@ impl SignatureTable {
 
     // Whether a clause is equal to one in the table.
     fn lists<D: ClauseDatabase>(&self, db: &D, clause: &Clause) -> bool
-        requires { Tabled self.now (standing db.now) }
-        ensures { result ≡ some_equal (lits_of clause.now) (take self.now.len (standing db.now)) }
+        requires { Tabled self.now (D.standing db.now) }
+        ensures { result ≡ some_equal (lits_of clause.now) (take self.now.len (D.standing db.now)) }
     {
         db.lawful();
         let sought = signature(clause);
@@ -130,8 +130,8 @@ impl SignatureTable {
 
     // Whether a clause is equal to a standing one.
     pub(crate) fn stands<D: ClauseDatabase>(&self, db: &D, clause: &Clause) -> bool
-        requires { Tabled self.now (standing db.now) }
-        ensures { result ≡ some_equal (lits_of clause.now) (standing db.now) }
+        requires { Tabled self.now (D.standing db.now) }
+        ensures { result ≡ some_equal (lits_of clause.now) (D.standing db.now) }
     {
         self.lists(db, clause) || stands_above(db, self.last, clause)
     }

@@ -35,7 +35,7 @@ fn finish_and_write<D: ClauseDatabase>(
     db: &D,
     buffer: &mut [u8],
 ) -> Result<Report, LocatedFault>
-    ensures outcome { (saves : List Saved) → Answers (written (length buffer.old) (checking_variables session) (progress session (standing db.now) saves)) result (standing db.now) saves buffer.old buffer.new }
+    ensures outcome { (saves : List Saved) → Answers (written (length buffer.old) (checking_variables session) (progress session (D.standing db.now) saves)) result (D.standing db.now) saves buffer.old buffer.new }
 {
     let (finished, counts) = session.finish(db);
     match finished.write(db, buffer) {
@@ -57,8 +57,8 @@ fn check_trace<D: ClauseDatabase>(
     marks: &mut [u8],
     buffer: &mut [u8],
 ) -> Result<Report, LocatedFault>
-    ensures outcome { Answers (traced (length buffer.old) (checking_variables session) (read_trace marks.old (limited db.old) (room_of stack.old) (progress session (standing db.old) (saved stack.old)) trace.now)) result (standing db.new) (saved stack.new) buffer.old buffer.new }
-    ensures limits { limited db.new ≡ limited db.old }
+    ensures outcome { Answers (traced (length buffer.old) (checking_variables session) (read_trace marks.old (D.limited db.old) (room_of stack.old) (progress session (D.standing db.old) (saved stack.old)) trace.now)) result (D.standing db.new) (saved stack.new) buffer.old buffer.new }
+    ensures limits { D.limited db.new ≡ D.limited db.old }
     ensures room { room_of stack.new ≡ room_of stack.old }
     ensures marks { marks.new ≡ marks.old }
 {
@@ -76,8 +76,8 @@ fn check_both<D: ClauseDatabase>(
     marks: &mut [u8],
     buffer: &mut [u8],
 ) -> Result<Report, LocatedFault>
-    ensures outcome { Answers (whole marks.old (limited db.old) (room_of stack.old) (standing db.old) (saved stack.old) (length buffer.old) formula.now trace.now) result (standing db.new) (saved stack.new) buffer.old buffer.new }
-    ensures limits { limited db.new ≡ limited db.old }
+    ensures outcome { Answers (whole marks.old (D.limited db.old) (room_of stack.old) (D.standing db.old) (saved stack.old) (length buffer.old) formula.now trace.now) result (D.standing db.new) (saved stack.new) buffer.old buffer.new }
+    ensures limits { D.limited db.new ≡ D.limited db.old }
     ensures room { room_of stack.new ≡ room_of stack.old }
     ensures marks { marks.new ≡ marks.old }
 {
@@ -97,11 +97,11 @@ pub fn check_files<D: ClauseDatabase>(
     marks: &mut [u8],
     buffer: &mut [u8],
 ) -> Result<Report, LocatedFault>
-    ensures outcome { Answers (whole marks.old (limited db.old) (room_of stack.old) (standing db.old) (saved stack.old) (length buffer.old) formula.now trace.now) result (standing db.new) (saved stack.new) buffer.old buffer.new }
-    ensures limits { limited db.new ≡ limited db.old }
+    ensures outcome { Answers (whole marks.old (D.limited db.old) (room_of stack.old) (D.standing db.old) (saved stack.old) (length buffer.old) formula.now trace.now) result (D.standing db.new) (saved stack.new) buffer.old buffer.new }
+    ensures limits { D.limited db.new ≡ D.limited db.old }
     ensures room { room_of stack.new ≡ room_of stack.old }
     ensures marks { marks.new ≡ marks.old }
-    ensures history { clean_marks marks.old ≡ true → LeadsToReport (limited db.old) (room_of stack.old) (files_history marks.old (limited db.old) (room_of stack.old) (standing db.old) (saved stack.old) (length buffer.old) formula.now trace.now) result (standing db.old) (saved stack.old) (standing db.new) (saved stack.new) }
+    ensures history { clean_marks marks.old ≡ true → LeadsToReport (D.limited db.old) (room_of stack.old) (files_history marks.old (D.limited db.old) (room_of stack.old) (D.standing db.old) (saved stack.old) (length buffer.old) formula.now trace.now) result (D.standing db.old) (saved stack.old) (D.standing db.new) (saved stack.new) }
 {
     check_both(formula, trace, db, stack, marks, buffer)
 }

@@ -34,7 +34,7 @@ fn first_unblocked<D: ClauseDatabase>(
     pivot: Literal,
 ) -> Option<u32>
     requires marked { Marked 512 marks.now.bytes.now (lits_of clause.now) }
-    ensures { result ≡ first_unblocked pivot.value (lits_of clause.now) (standing db.now) }
+    ensures { result ≡ first_unblocked pivot.value (lits_of clause.now) (D.standing db.now) }
 {
     db.lawful();
     let mut above = 0;
@@ -57,7 +57,7 @@ fn judge<D: ClauseDatabase>(
     pivot: Literal,
 ) -> Result<Clause, SessionFault>
     requires { bytes.old ≡ replicate 1024 0 }
-    ensures judged { BlockedJudged (standing db.now) (b_line clause.value pivot.value) result }
+    ensures judged { BlockedJudged (D.standing db.now) (b_line clause.value pivot.value) result }
     ensures marks { bytes.new ≡ replicate 1024 0 }
 {
     let Some(c) = db.clause(clause) else {
@@ -83,10 +83,10 @@ pub(crate) fn blocked<D: ClauseDatabase>(
     pivot: Literal,
 ) -> Result<(), SessionFault>
     requires { bytes.old ≡ replicate 1024 0 }
-    ensures fault { fault_of result ≡ blocked_refused (room_of stack.old) (standing db.old) (saved stack.old) (b_line clause.value pivot.value) }
-    ensures database { standing db.new ≡ unless (fault_of result) (without clause.value (standing db.old)) (standing db.old) }
-    ensures limits { limited db.new ≡ limited db.old }
-    ensures stack { saved stack.new ≡ unless (fault_of result) (saved stack.old ++ line_saves (standing db.old) (b_line clause.value pivot.value)) (saved stack.old) }
+    ensures fault { fault_of result ≡ blocked_refused (room_of stack.old) (D.standing db.old) (saved stack.old) (b_line clause.value pivot.value) }
+    ensures database { D.standing db.new ≡ unless (fault_of result) (without clause.value (D.standing db.old)) (D.standing db.old) }
+    ensures limits { D.limited db.new ≡ D.limited db.old }
+    ensures stack { saved stack.new ≡ unless (fault_of result) (saved stack.old ++ line_saves (D.standing db.old) (b_line clause.value pivot.value)) (saved stack.old) }
     ensures room { room_of stack.new ≡ room_of stack.old }
     ensures marks { bytes.new ≡ replicate 1024 0 }
 {

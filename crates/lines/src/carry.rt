@@ -27,10 +27,10 @@ fn carry_step<D: ClauseDatabase>(
     step: Step,
 ) -> Result<(), SessionFault>
     requires { marks.old ≡ replicate 1024 0 }
-    ensures fault { fault_of result ≡ step_refused (limited db.old) (room_of stack.old) given (standing db.old) (saved stack.old) (line_of step) }
-    ensures database { standing db.new ≡ unless (fault_of result) (line_leaves (standing db.old) (line_of step)) (standing db.old) }
-    ensures limits { limited db.new ≡ limited db.old }
-    ensures stack { saved stack.new ≡ unless (fault_of result) (saved stack.old ++ line_saves (standing db.old) (line_of step)) (saved stack.old) }
+    ensures fault { fault_of result ≡ step_refused (D.limited db.old) (room_of stack.old) given (D.standing db.old) (saved stack.old) (line_of step) }
+    ensures database { D.standing db.new ≡ unless (fault_of result) (line_leaves (D.standing db.old) (line_of step)) (D.standing db.old) }
+    ensures limits { D.limited db.new ≡ D.limited db.old }
+    ensures stack { saved stack.new ≡ unless (fault_of result) (saved stack.old ++ line_saves (D.standing db.old) (line_of step)) (saved stack.old) }
     ensures room { room_of stack.new ≡ room_of stack.old }
     ensures marks { marks.new ≡ replicate 1024 0 }
 {
@@ -53,10 +53,10 @@ pub fn carry_out<D: ClauseDatabase>(
     given: u32,
     line: &Line,
 ) -> Result<(), SessionFault>
-    ensures fault { fault_of result ≡ submit_fault marks.old (limited db.old) (room_of stack.old) given (standing db.old) (saved stack.old) line.now }
-    ensures database { standing db.new ≡ unless (fault_of result) (line_leaves (standing db.old) line.now) (standing db.old) }
-    ensures limits { limited db.new ≡ limited db.old }
-    ensures stack { saved stack.new ≡ unless (fault_of result) (saved stack.old ++ line_saves (standing db.old) line.now) (saved stack.old) }
+    ensures fault { fault_of result ≡ submit_fault marks.old (D.limited db.old) (room_of stack.old) given (D.standing db.old) (saved stack.old) line.now }
+    ensures database { D.standing db.new ≡ unless (fault_of result) (line_leaves (D.standing db.old) line.now) (D.standing db.old) }
+    ensures limits { D.limited db.new ≡ D.limited db.old }
+    ensures stack { saved stack.new ≡ unless (fault_of result) (saved stack.old ++ line_saves (D.standing db.old) line.now) (saved stack.old) }
     ensures room { room_of stack.new ≡ room_of stack.old }
     ensures marks { marks.new ≡ marks.old }
     ensures wiped { clean_marks marks.old ≡ true → marks.new ≡ replicate 1024 0 }

@@ -20,7 +20,7 @@ fn judge<D: ClauseDatabase>(
     second: ClauseNumber,
 ) -> Result<Clause, SessionFault>
     requires { bytes.old ≡ replicate 1024 0 }
-    ensures judged { ResolveJudged given (standing db.now) (r_line number.value pivot.value first.value second.value) result }
+    ensures judged { ResolveJudged given (D.standing db.now) (r_line number.value pivot.value first.value second.value) result }
     ensures marks { bytes.new ≡ replicate 1024 0 }
 {
     if number.value <= given {
@@ -60,9 +60,9 @@ pub(crate) fn resolve<D: ClauseDatabase>(
     second: ClauseNumber,
 ) -> Result<(), SessionFault>
     requires { bytes.old ≡ replicate 1024 0 }
-    ensures fault { fault_of result ≡ resolve_refused (limited db.old) given (standing db.old) (r_line number.value pivot.value first.value second.value) }
-    ensures database { standing db.new ≡ unless (fault_of result) (inserted (record { number = number.value; lits = line_resolvent (standing db.old) (r_line number.value pivot.value first.value second.value) }) (standing db.old)) (standing db.old) }
-    ensures limits { limited db.new ≡ limited db.old }
+    ensures fault { fault_of result ≡ resolve_refused (D.limited db.old) given (D.standing db.old) (r_line number.value pivot.value first.value second.value) }
+    ensures database { D.standing db.new ≡ unless (fault_of result) (inserted (record { number = number.value; lits = line_resolvent (D.standing db.old) (r_line number.value pivot.value first.value second.value) }) (D.standing db.old)) (D.standing db.old) }
+    ensures limits { D.limited db.new ≡ D.limited db.old }
     ensures marks { bytes.new ≡ replicate 1024 0 }
 {
     let clause = judge(db, bytes, given, number, pivot, first, second)?;

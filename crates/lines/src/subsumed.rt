@@ -17,7 +17,7 @@ fn judge<D: ClauseDatabase>(
     first: ClauseNumber,
 ) -> Result<(), SessionFault>
     requires { bytes.old ≡ replicate 1024 0 }
-    ensures fault { fault_of result ≡ subsumed_fault (standing db.now) (s_line clause.value first.value) }
+    ensures fault { fault_of result ≡ subsumed_fault (D.standing db.now) (s_line clause.value first.value) }
     ensures marks { bytes.new ≡ replicate 1024 0 }
 {
     let Some(c) = db.clause(clause) else {
@@ -45,9 +45,9 @@ pub(crate) fn subsumed<D: ClauseDatabase>(
     first: ClauseNumber,
 ) -> Result<(), SessionFault>
     requires { bytes.old ≡ replicate 1024 0 }
-    ensures fault { fault_of result ≡ subsumed_fault (standing db.old) (s_line clause.value first.value) }
-    ensures database { standing db.new ≡ unless (fault_of result) (without clause.value (standing db.old)) (standing db.old) }
-    ensures limits { limited db.new ≡ limited db.old }
+    ensures fault { fault_of result ≡ subsumed_fault (D.standing db.old) (s_line clause.value first.value) }
+    ensures database { D.standing db.new ≡ unless (fault_of result) (without clause.value (D.standing db.old)) (D.standing db.old) }
+    ensures limits { D.limited db.new ≡ D.limited db.old }
     ensures marks { bytes.new ≡ replicate 1024 0 }
 {
     judge(db, bytes, clause, first)?;

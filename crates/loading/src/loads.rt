@@ -18,12 +18,12 @@ impl Loading {
         db: &mut D,
         list: &[i16],
     ) -> Result<ClauseNumber, SessionFault>
-        ensures fault { fault_of result ≡ load_fault (formula_variables self.old) (loaded_count self.old) (limited db.old) (standing db.old) list.now }
+        ensures fault { fault_of result ≡ load_fault (formula_variables self.old) (loaded_count self.old) (D.limited db.old) (D.standing db.old) list.now }
         ensures number { IfOk result (λ k. k.value ≡ loaded_count self.old + 1) }
         ensures loaded { loaded_count self.new ≡ unless (fault_of result) (loaded_count self.old + 1) (loaded_count self.old) }
         ensures variables { formula_variables self.new ≡ formula_variables self.old }
-        ensures standing { standing db.new ≡ unless (fault_of result) (load_adds (loaded_count self.old) (standing db.old) list.now) (standing db.old) }
-        ensures limits { limited db.new ≡ limited db.old }
+        ensures standing { D.standing db.new ≡ unless (fault_of result) (load_adds (loaded_count self.old) (D.standing db.old) list.now) (D.standing db.old) }
+        ensures limits { D.limited db.new ≡ D.limited db.old }
     {
         let number = ClauseNumber {
             value: self.loaded as u32 + 1,
@@ -42,13 +42,13 @@ impl Loading {
         db: &mut D,
         list: &[i16],
     ) -> Result<ClauseNumber, SessionFault>
-        ensures fault { fault_of result ≡ load_fault (formula_variables self.old) (loaded_count self.old) (limited db.old) (standing db.old) list.now }
+        ensures fault { fault_of result ≡ load_fault (formula_variables self.old) (loaded_count self.old) (D.limited db.old) (D.standing db.old) list.now }
         ensures number { IfOk result (λ k. k.value ≡ loaded_count self.old + 1) }
         ensures loaded { loaded_count self.new ≡ unless (fault_of result) (loaded_count self.old + 1) (loaded_count self.old) }
         ensures variables { formula_variables self.new ≡ formula_variables self.old }
-        ensures standing { standing db.new ≡ unless (fault_of result) (load_adds (loaded_count self.old) (standing db.old) list.now) (standing db.old) }
-        ensures limits { limited db.new ≡ limited db.old }
-        ensures history { (room : Room) (saves : List Saved) (h : History) → ToLoading (limited db.old) room h (formula_variables self.old) (loaded_count self.old) (standing db.old) saves → ToLoading (limited db.new) room (after h (load list.now (fault_of result))) (formula_variables self.new) (loaded_count self.new) (standing db.new) saves }
+        ensures standing { D.standing db.new ≡ unless (fault_of result) (load_adds (loaded_count self.old) (D.standing db.old) list.now) (D.standing db.old) }
+        ensures limits { D.limited db.new ≡ D.limited db.old }
+        ensures history { (room : Room) (saves : List Saved) (h : History) → ToLoading (D.limited db.old) room h (formula_variables self.old) (loaded_count self.old) (D.standing db.old) saves → ToLoading (D.limited db.new) room (after h (load list.now (fault_of result))) (formula_variables self.new) (loaded_count self.new) (D.standing db.new) saves }
     {
         self.load_list(db, list)
     }

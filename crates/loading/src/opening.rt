@@ -17,7 +17,7 @@ fn begin<D: ClauseDatabase>(
     db: &D,
     stack: &ReconstructionStack<'_>,
 ) -> Result<Loading, SessionFault>
-    ensures fault { fault_of result ≡ open_fault variables (standing db.now) (saved stack.now) }
+    ensures fault { fault_of result ≡ open_fault variables (D.standing db.now) (saved stack.now) }
     ensures variables { IfOk result (λ s. formula_variables s ≡ variables) }
     ensures loaded { IfOk result (λ s. loaded_count s ≡ 0) }
 {
@@ -43,10 +43,10 @@ pub fn open<D: ClauseDatabase>(
     db: &D,
     stack: &ReconstructionStack<'_>,
 ) -> Result<Loading, SessionFault>
-    ensures fault { fault_of result ≡ open_fault variables (standing db.now) (saved stack.now) }
+    ensures fault { fault_of result ≡ open_fault variables (D.standing db.now) (saved stack.now) }
     ensures variables { IfOk result (λ s. formula_variables s ≡ variables) }
     ensures loaded { IfOk result (λ s. loaded_count s ≡ 0) }
-    ensures history { IfOk result (λ s. ToLoading (limited db.now) (room_of stack.now) (opened variables) (formula_variables s) (loaded_count s) (standing db.now) (saved stack.now)) }
+    ensures history { IfOk result (λ s. ToLoading (D.limited db.now) (room_of stack.now) (opened variables) (formula_variables s) (loaded_count s) (D.standing db.now) (saved stack.now)) }
 {
     begin(variables, db, stack)
 }

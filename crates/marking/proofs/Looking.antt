@@ -33,8 +33,8 @@ rising_at n m (x ∷ xs) (suc i) d r h =
     (omega (arith, ih.0), ih.1)
 
 -- a literal as the code holds it, y, is the one in the clause, and in range
-pub ranged : (xs : List ℤ) (i : ℕ) (y : ℤ) → y ≡ get_or xs i (pos 0) → rising 512 0 xs ≡ true → i < length xs → (1 ≤ nat_abs y) × (nat_abs y ≤ 512 × Unit {0})
-ranged xs i y e r h = let p = rising_at 512 0 xs i (pos 0) r h in let q = ap nat_abs e in (omega (arith, p.0), (omega (arith, p.1), tt))
+pub ranged : (xs : List ℤ) (i : ℕ) (y : ℤ) → y ≡ get_or xs i (pos 0) → rising 512 0 xs ≡ true → i < length xs → (1 ≤ nat_abs y) × (nat_abs y ≤ 512)
+ranged xs i y e r h = let p = rising_at 512 0 xs i (pos 0) r h in let q = ap nat_abs e in (omega (arith, p.0), omega (arith, p.1))
 
 -- the literal at i, as the code holds it, is the first of what is left
 pub next_literal : (xs : List ℤ) (i : ℕ) → i < length xs → (y : ℤ) → y ≡ get_or xs i (pos 0) → drop i xs ≡ y ∷ drop (i + 1) xs

@@ -34,8 +34,8 @@ fn read_rest<D: ClauseDatabase>(
     stack: &ReconstructionStack<'_>,
 ) -> Result<Loading, LocatedFault>
     requires { counts.now.variables ≤ 512 }
-    ensures outcome { Ends (read_rest (limited db.old) (standing db.old) (saved stack.now) scanner.old.text.now counts.now (rest_of scanner.old)) result (standing db.new) }
-    ensures limits { limited db.new ≡ limited db.old }
+    ensures outcome { Ends (read_rest (D.limited db.old) (D.standing db.old) (saved stack.now) scanner.old.text.now counts.now (rest_of scanner.old)) result (D.standing db.new) }
+    ensures limits { D.limited db.new ≡ D.limited db.old }
 {
     let mut session = match open(counts.variables, db, stack) {
         Ok(session) => session,
@@ -53,8 +53,8 @@ fn read_scanned<D: ClauseDatabase>(
     db: &mut D,
     stack: &ReconstructionStack<'_>,
 ) -> Result<Loading, LocatedFault>
-    ensures outcome { Ends (read_part (limited db.old) (standing db.old) (saved stack.now) scanner.old.text.now (rest_of scanner.old)) result (standing db.new) }
-    ensures limits { limited db.new ≡ limited db.old }
+    ensures outcome { Ends (read_part (D.limited db.old) (D.standing db.old) (saved stack.now) scanner.old.text.now (rest_of scanner.old)) result (D.standing db.new) }
+    ensures limits { D.limited db.new ≡ D.limited db.old }
 {
     match scanner.header() {
         Ok(counts) => read_rest(scanner, &counts, db, stack),
@@ -68,8 +68,8 @@ fn read_sized<D: ClauseDatabase>(
     db: &mut D,
     stack: &ReconstructionStack<'_>,
 ) -> Result<Loading, LocatedFault>
-    ensures outcome { Ends (read_text (limited db.old) (standing db.old) (saved stack.now) text.now) result (standing db.new) }
-    ensures limits { limited db.new ≡ limited db.old }
+    ensures outcome { Ends (read_text (D.limited db.old) (D.standing db.old) (saved stack.now) text.now) result (D.standing db.new) }
+    ensures limits { D.limited db.new ≡ D.limited db.old }
 {
     if text.len() > 65_536 {
         return Err(at_line(0, FileFault::TooManyBytes));
@@ -85,9 +85,9 @@ pub fn read_formula<D: ClauseDatabase>(
     db: &mut D,
     stack: &ReconstructionStack<'_>,
 ) -> Result<Loading, LocatedFault>
-    ensures outcome { Ends (read_text (limited db.old) (standing db.old) (saved stack.now) text.now) result (standing db.new) }
-    ensures limits { limited db.new ≡ limited db.old }
-    ensures history { (room : Room) → LeadsToAnswer (limited db.old) room (formula_history (limited db.old) (standing db.old) (saved stack.now) text.now) result (standing db.old) (standing db.new) (saved stack.now) }
+    ensures outcome { Ends (read_text (D.limited db.old) (D.standing db.old) (saved stack.now) text.now) result (D.standing db.new) }
+    ensures limits { D.limited db.new ≡ D.limited db.old }
+    ensures history { (room : Room) → LeadsToAnswer (D.limited db.old) room (formula_history (D.limited db.old) (D.standing db.old) (saved stack.now) text.now) result (D.standing db.old) (D.standing db.new) (saved stack.now) }
 {
     read_sized(text, db, stack)
 }

@@ -24,10 +24,10 @@ fn end_list<D: ClauseDatabase>(
     session: &mut Loading,
     db: &mut D,
 ) -> Result<(), FileFault>
-    ensures fault { fault_of result ≡ inside Session (load_fault (formula_variables session.old) (loaded_count session.old) (limited db.old) (standing db.old) (pending_of pending.old)) }
-    ensures after { reading (pending_of pending.exit.now) session.new (standing db.new) ≡ unless (fault_of result) (record { pending = []; accepted = loaded_count session.old + 1; entries = load_adds (loaded_count session.old) (standing db.old) (pending_of pending.entry.now) }) (reading (pending_of pending.entry.now) session.old (standing db.old)) }
+    ensures fault { fault_of result ≡ inside Session (load_fault (formula_variables session.old) (loaded_count session.old) (D.limited db.old) (D.standing db.old) (pending_of pending.old)) }
+    ensures after { reading (pending_of pending.exit.now) session.new (D.standing db.new) ≡ unless (fault_of result) (record { pending = []; accepted = loaded_count session.old + 1; entries = load_adds (loaded_count session.old) (D.standing db.old) (pending_of pending.entry.now) }) (reading (pending_of pending.entry.now) session.old (D.standing db.old)) }
     ensures variables { formula_variables session.new ≡ formula_variables session.old }
-    ensures limits { limited db.new ≡ limited db.old }
+    ensures limits { D.limited db.new ≡ D.limited db.old }
 {
     session.load(db, pending.list())?;
     pending.clear();
@@ -44,10 +44,10 @@ fn read_word<D: ClauseDatabase>(
 ) -> Result<(), FileFault>
     requires narrow { counts.now.variables ≤ 512 }
     requires opened { formula_variables session.old ≡ counts.now.variables }
-    ensures fault { fault_of result ≡ word_fault (limited db.old) counts.now (reading (pending_of pending.old) session.old (standing db.old)) (numeral word.now) }
-    ensures after { reading (pending_of pending.new) session.new (standing db.new) ≡ unless (fault_of result) (word_leaves (reading (pending_of pending.old) session.old (standing db.old)) (numeral word.now)) (reading (pending_of pending.old) session.old (standing db.old)) }
+    ensures fault { fault_of result ≡ word_fault (D.limited db.old) counts.now (reading (pending_of pending.old) session.old (D.standing db.old)) (numeral word.now) }
+    ensures after { reading (pending_of pending.new) session.new (D.standing db.new) ≡ unless (fault_of result) (word_leaves (reading (pending_of pending.old) session.old (D.standing db.old)) (numeral word.now)) (reading (pending_of pending.old) session.old (D.standing db.old)) }
     ensures variables { formula_variables session.new ≡ formula_variables session.old }
-    ensures limits { limited db.new ≡ limited db.old }
+    ensures limits { D.limited db.new ≡ D.limited db.old }
 {
     if session.loaded() as u32 >= counts.clauses {
         return Err(FileFault::ClauseCount);
@@ -68,9 +68,9 @@ pub(crate) fn read_lists<D: ClauseDatabase>(
 ) -> Result<(), FileFault>
     requires narrow { counts.now.variables ≤ 512 }
     requires opened { formula_variables session.old ≡ counts.now.variables }
-    ensures outcome { outcome (line_of scanner.new) counts.now.variables (reading [] session.new (standing db.new)) (fault_of result) ≡ read_words (limited db.old) counts.now (last_line scanner.old.text.now) (reading [] session.old (standing db.old)) (words_of scanner.old) }
+    ensures outcome { outcome (line_of scanner.new) counts.now.variables (reading [] session.new (D.standing db.new)) (fault_of result) ≡ read_words (D.limited db.old) counts.now (last_line scanner.old.text.now) (reading [] session.old (D.standing db.old)) (words_of scanner.old) }
     ensures variables { formula_variables session.new ≡ formula_variables session.old }
-    ensures limits { limited db.new ≡ limited db.old }
+    ensures limits { D.limited db.new ≡ D.limited db.old }
 {
     let mut pending = Pending::new();
     while let Some(word) = scanner.next_word() {

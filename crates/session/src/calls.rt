@@ -58,13 +58,13 @@ impl Checking {
         marks: &mut [u8],
         line: &Line,
     ) -> Result<(), SessionFault>
-        ensures fault { fault_of result ≡ submit_fault marks.old (limited db.old) (room_of stack.old) (given_number self.old) (standing db.old) (saved stack.old) line.now }
+        ensures fault { fault_of result ≡ submit_fault marks.old (D.limited db.old) (room_of stack.old) (given_number self.old) (D.standing db.old) (saved stack.old) line.now }
         ensures variables { checking_variables self.new ≡ checking_variables self.old }
         ensures given { given_number self.new ≡ unless (fault_of result) (line_gives (given_number self.old) line.now) (given_number self.old) }
         ensures accepted { accepted_count self.new ≡ unless (fault_of result) (one_more (accepted_count self.old)) (accepted_count self.old) }
-        ensures database { standing db.new ≡ unless (fault_of result) (line_leaves (standing db.old) line.now) (standing db.old) }
-        ensures limits { limited db.new ≡ limited db.old }
-        ensures stack { saved stack.new ≡ unless (fault_of result) (saved stack.old ++ line_saves (standing db.old) line.now) (saved stack.old) }
+        ensures database { D.standing db.new ≡ unless (fault_of result) (line_leaves (D.standing db.old) line.now) (D.standing db.old) }
+        ensures limits { D.limited db.new ≡ D.limited db.old }
+        ensures stack { saved stack.new ≡ unless (fault_of result) (saved stack.old ++ line_saves (D.standing db.old) line.now) (saved stack.old) }
         ensures room { room_of stack.new ≡ room_of stack.old }
         ensures marks { marks.new ≡ marks.old }
         ensures wiped { clean_marks marks.old ≡ true → marks.new ≡ replicate 1024 0 }
@@ -84,17 +84,17 @@ impl Checking {
         marks: &mut [u8],
         line: &Line,
     ) -> Result<(), SessionFault>
-        ensures fault { fault_of result ≡ submit_fault marks.old (limited db.old) (room_of stack.old) (given_number self.old) (standing db.old) (saved stack.old) line.now }
+        ensures fault { fault_of result ≡ submit_fault marks.old (D.limited db.old) (room_of stack.old) (given_number self.old) (D.standing db.old) (saved stack.old) line.now }
         ensures variables { checking_variables self.new ≡ checking_variables self.old }
         ensures given { given_number self.new ≡ unless (fault_of result) (line_gives (given_number self.old) line.now) (given_number self.old) }
         ensures accepted { accepted_count self.new ≡ unless (fault_of result) (one_more (accepted_count self.old)) (accepted_count self.old) }
-        ensures database { standing db.new ≡ unless (fault_of result) (line_leaves (standing db.old) line.now) (standing db.old) }
-        ensures limits { limited db.new ≡ limited db.old }
-        ensures stack { saved stack.new ≡ unless (fault_of result) (saved stack.old ++ line_saves (standing db.old) line.now) (saved stack.old) }
+        ensures database { D.standing db.new ≡ unless (fault_of result) (line_leaves (D.standing db.old) line.now) (D.standing db.old) }
+        ensures limits { D.limited db.new ≡ D.limited db.old }
+        ensures stack { saved stack.new ≡ unless (fault_of result) (saved stack.old ++ line_saves (D.standing db.old) line.now) (saved stack.old) }
         ensures room { room_of stack.new ≡ room_of stack.old }
         ensures marks { marks.new ≡ marks.old }
         ensures wiped { clean_marks marks.old ≡ true → marks.new ≡ replicate 1024 0 }
-        ensures history { clean_marks marks.old ≡ true → (h : History) → ToChecking (limited db.old) (room_of stack.old) h (checking_variables self.old) (given_number self.old) (accepted_count self.old) (standing db.old) (saved stack.old) → ToChecking (limited db.new) (room_of stack.new) (after h (event.submit line.now (fault_of result))) (checking_variables self.new) (given_number self.new) (accepted_count self.new) (standing db.new) (saved stack.new) }
+        ensures history { clean_marks marks.old ≡ true → (h : History) → ToChecking (D.limited db.old) (room_of stack.old) h (checking_variables self.old) (given_number self.old) (accepted_count self.old) (D.standing db.old) (saved stack.old) → ToChecking (D.limited db.new) (room_of stack.new) (after h (event.submit line.now (fault_of result))) (checking_variables self.new) (given_number self.new) (accepted_count self.new) (D.standing db.new) (saved stack.new) }
     {
         self.submit_line(db, stack, marks, line)
     }
@@ -103,8 +103,8 @@ impl Checking {
     fn finish_checking<D: ClauseDatabase>(self, db: &D) -> (Finished, Counts)
         ensures variables { finished_variables result.0 ≡ checking_variables self }
         ensures accepted { result.1.accepted ≡ accepted_count self }
-        ensures standing { result.1.standing ≡ length (standing db.now) }
-        ensures empty { result.1.empty ≡ empty_stands (standing db.now) }
+        ensures standing { result.1.standing ≡ length (D.standing db.now) }
+        ensures empty { result.1.empty ≡ empty_stands (D.standing db.now) }
     {
         let counts = Counts {
             accepted: self.accepted,
@@ -123,9 +123,9 @@ impl Checking {
     pub fn finish<D: ClauseDatabase>(self, db: &D) -> (Finished, Counts)
         ensures variables { finished_variables result.0 ≡ checking_variables self }
         ensures accepted { result.1.accepted ≡ accepted_count self }
-        ensures standing { result.1.standing ≡ length (standing db.now) }
-        ensures empty { result.1.empty ≡ empty_stands (standing db.now) }
-        ensures history { (room : Room) (saves : List Saved) (h : History) → ToChecking (limited db.now) room h (checking_variables self) (given_number self) (accepted_count self) (standing db.now) saves → ToFinished (limited db.now) room (after h (event.finish result.1.accepted result.1.standing result.1.empty)) (finished_variables result.0) (standing db.now) saves }
+        ensures standing { result.1.standing ≡ length (D.standing db.now) }
+        ensures empty { result.1.empty ≡ empty_stands (D.standing db.now) }
+        ensures history { (room : Room) (saves : List Saved) (h : History) → ToChecking (D.limited db.now) room h (checking_variables self) (given_number self) (accepted_count self) (D.standing db.now) saves → ToFinished (D.limited db.now) room (after h (event.finish result.1.accepted result.1.standing result.1.empty)) (finished_variables result.0) (D.standing db.now) saves }
     {
         self.finish_checking(db)
     }
@@ -140,19 +140,19 @@ impl Finished {
         stack: &ReconstructionStack<'_>,
         assignment: &mut [u8],
     ) -> Result<(), SessionFault>
-        ensures fault { fault_of result ≡ restore_fault (finished_variables self.now) (standing db.now) assignment.old }
+        ensures fault { fault_of result ≡ restore_fault (finished_variables self.now) (D.standing db.now) assignment.old }
         ensures after { assignment.new ≡ unless (fault_of result) (restored (saved stack.now) assignment.old) assignment.old }
-        ensures history { (h : History) → ToFinished (limited db.now) (room_of stack.now) h (finished_variables self.now) (standing db.now) (saved stack.now) → ToFinished (limited db.now) (room_of stack.now) (after h (event.restore assignment.old assignment.new (fault_of result))) (finished_variables self.now) (standing db.now) (saved stack.now) }
+        ensures history { (h : History) → ToFinished (D.limited db.now) (room_of stack.now) h (finished_variables self.now) (D.standing db.now) (saved stack.now) → ToFinished (D.limited db.now) (room_of stack.now) (after h (event.restore assignment.old assignment.new (fault_of result))) (finished_variables self.now) (D.standing db.now) (saved stack.now) }
     {
         restore(db, stack, self.variables, assignment)
     }
 
     // Writes the reduced formula into a buffer and answers the text's length, or refuses (81, 80) and writes nothing.
     pub fn write<D: ClauseDatabase>(&self, db: &D, buffer: &mut [u8]) -> Result<usize, SessionFault>
-        ensures fault { fault_of result ≡ write_fault (finished_variables self.now) (standing db.now) (length buffer.old) }
-        ensures answer { IfOk result (λ n. n ≡ length (formula_text (finished_variables self.now) (standing db.now))) }
-        ensures after { buffer.new ≡ unless (fault_of result) (fronted (formula_text (finished_variables self.now) (standing db.now)) buffer.old) buffer.old }
-        ensures history { (room : Room) (saves : List Saved) (h : History) → ToFinished (limited db.now) room h (finished_variables self.now) (standing db.now) saves → ToFinished (limited db.now) room (after h (event.write (fault_of result))) (finished_variables self.now) (standing db.now) saves }
+        ensures fault { fault_of result ≡ write_fault (finished_variables self.now) (D.standing db.now) (length buffer.old) }
+        ensures answer { IfOk result (λ n. n ≡ length (formula_text (finished_variables self.now) (D.standing db.now))) }
+        ensures after { buffer.new ≡ unless (fault_of result) (fronted (formula_text (finished_variables self.now) (D.standing db.now)) buffer.old) buffer.old }
+        ensures history { (room : Room) (saves : List Saved) (h : History) → ToFinished (D.limited db.now) room h (finished_variables self.now) (D.standing db.now) saves → ToFinished (D.limited db.now) room (after h (event.write (fault_of result))) (finished_variables self.now) (D.standing db.now) saves }
     {
         write(db, self.variables, buffer)
     }

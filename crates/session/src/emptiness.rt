@@ -6,7 +6,7 @@ use database::ClauseDatabase;
 
 // 1 if the empty clause stands, else 0.
 pub(crate) fn empty_stands<D: ClauseDatabase>(db: &D) -> u8
-    ensures { result ≡ empty_stands (standing db.now) }
+    ensures { result ≡ empty_stands (D.standing db.now) }
 {
     db.lawful();
     let mut above = 0;

@@ -39,10 +39,10 @@ fn send<D: ClauseDatabase>(
     stack: &mut ReconstructionStack<'_>,
     marks: &mut [u8],
 ) -> Result<(), FileFault>
-    ensures fault { fault_of result ≡ sent_fault marks.old (limited db.old) (room_of stack.old) (progress session.old (standing db.old) (saved stack.old)) (parsed text.now) }
-    ensures after { progress session.new (standing db.new) (saved stack.new) ≡ unless (fault_of result) (sent (progress session.old (standing db.old) (saved stack.old)) (parsed text.now)) (progress session.old (standing db.old) (saved stack.old)) }
+    ensures fault { fault_of result ≡ sent_fault marks.old (D.limited db.old) (room_of stack.old) (progress session.old (D.standing db.old) (saved stack.old)) (parsed text.now) }
+    ensures after { progress session.new (D.standing db.new) (saved stack.new) ≡ unless (fault_of result) (sent (progress session.old (D.standing db.old) (saved stack.old)) (parsed text.now)) (progress session.old (D.standing db.old) (saved stack.old)) }
     ensures variables { checking_variables session.new ≡ checking_variables session.old }
-    ensures limits { limited db.new ≡ limited db.old }
+    ensures limits { D.limited db.new ≡ D.limited db.old }
     ensures room { room_of stack.new ≡ room_of stack.old }
     ensures marks { marks.new ≡ marks.old }
 {
@@ -60,9 +60,9 @@ fn send_first<D: ClauseDatabase>(
     marks: &mut [u8],
 ) -> Result<usize, FileFault>
     requires { 1 ≤ length text.now }
-    ensures step { Stepped marks.old (limited db.old) (room_of stack.old) (progress session.old (standing db.old) (saved stack.old)) text.now (progress session.new (standing db.new) (saved stack.new)) result }
+    ensures step { Stepped marks.old (D.limited db.old) (room_of stack.old) (progress session.old (D.standing db.old) (saved stack.old)) text.now (progress session.new (D.standing db.new) (saved stack.new)) result }
     ensures variables { checking_variables session.new ≡ checking_variables session.old }
-    ensures limits { limited db.new ≡ limited db.old }
+    ensures limits { D.limited db.new ≡ D.limited db.old }
     ensures room { room_of stack.new ≡ room_of stack.old }
     ensures marks { marks.new ≡ marks.old }
 {
@@ -86,9 +86,9 @@ fn send_lines<D: ClauseDatabase>(
 ) -> Result<(), LocatedFault>
     requires named { 31 ≤ length text.now }
     requires few { length text.now ≤ 65536 }
-    ensures outcome { told result (progress session.new (standing db.new) (saved stack.new)) ≡ read_lines marks.old (limited db.old) (room_of stack.old) 2 (progress session.old (standing db.old) (saved stack.old)) (text_lines (drop 31 text.now)) }
+    ensures outcome { told result (progress session.new (D.standing db.new) (saved stack.new)) ≡ read_lines marks.old (D.limited db.old) (room_of stack.old) 2 (progress session.old (D.standing db.old) (saved stack.old)) (text_lines (drop 31 text.now)) }
     ensures variables { checking_variables session.new ≡ checking_variables session.old }
-    ensures limits { limited db.new ≡ limited db.old }
+    ensures limits { D.limited db.new ≡ D.limited db.old }
     ensures room { room_of stack.new ≡ room_of stack.old }
     ensures marks { marks.new ≡ marks.old }
 {
@@ -121,9 +121,9 @@ fn read_named<D: ClauseDatabase>(
     marks: &mut [u8],
 ) -> Result<(), LocatedFault>
     requires { length text.now ≤ 65536 }
-    ensures outcome { told result (progress session.new (standing db.new) (saved stack.new)) ≡ read_named marks.old (limited db.old) (room_of stack.old) (progress session.old (standing db.old) (saved stack.old)) text.now }
+    ensures outcome { told result (progress session.new (D.standing db.new) (saved stack.new)) ≡ read_named marks.old (D.limited db.old) (room_of stack.old) (progress session.old (D.standing db.old) (saved stack.old)) text.now }
     ensures variables { checking_variables session.new ≡ checking_variables session.old }
-    ensures limits { limited db.new ≡ limited db.old }
+    ensures limits { D.limited db.new ≡ D.limited db.old }
     ensures room { room_of stack.new ≡ room_of stack.old }
     ensures marks { marks.new ≡ marks.old }
 {
@@ -141,9 +141,9 @@ fn read_sized<D: ClauseDatabase>(
     stack: &mut ReconstructionStack<'_>,
     marks: &mut [u8],
 ) -> Result<(), LocatedFault>
-    ensures outcome { told result (progress session.new (standing db.new) (saved stack.new)) ≡ read_trace marks.old (limited db.old) (room_of stack.old) (progress session.old (standing db.old) (saved stack.old)) text.now }
+    ensures outcome { told result (progress session.new (D.standing db.new) (saved stack.new)) ≡ read_trace marks.old (D.limited db.old) (room_of stack.old) (progress session.old (D.standing db.old) (saved stack.old)) text.now }
     ensures variables { checking_variables session.new ≡ checking_variables session.old }
-    ensures limits { limited db.new ≡ limited db.old }
+    ensures limits { D.limited db.new ≡ D.limited db.old }
     ensures room { room_of stack.new ≡ room_of stack.old }
     ensures marks { marks.new ≡ marks.old }
 {
@@ -162,12 +162,12 @@ pub fn read_trace<D: ClauseDatabase>(
     stack: &mut ReconstructionStack<'_>,
     marks: &mut [u8],
 ) -> Result<(), LocatedFault>
-    ensures outcome { told result (progress session.new (standing db.new) (saved stack.new)) ≡ read_trace marks.old (limited db.old) (room_of stack.old) (progress session.old (standing db.old) (saved stack.old)) text.now }
+    ensures outcome { told result (progress session.new (D.standing db.new) (saved stack.new)) ≡ read_trace marks.old (D.limited db.old) (room_of stack.old) (progress session.old (D.standing db.old) (saved stack.old)) text.now }
     ensures variables { checking_variables session.new ≡ checking_variables session.old }
-    ensures limits { limited db.new ≡ limited db.old }
+    ensures limits { D.limited db.new ≡ D.limited db.old }
     ensures room { room_of stack.new ≡ room_of stack.old }
     ensures marks { marks.new ≡ marks.old }
-    ensures history { clean_marks marks.old ≡ true → (h : History) → ToChecking (limited db.old) (room_of stack.old) h (checking_variables session.old) (given_number session.old) (accepted_count session.old) (standing db.old) (saved stack.old) → ToChecking (limited db.new) (room_of stack.new) (with_trace (limited db.old) (room_of stack.old) h text.now) (checking_variables session.new) (given_number session.new) (accepted_count session.new) (standing db.new) (saved stack.new) }
+    ensures history { clean_marks marks.old ≡ true → (h : History) → ToChecking (D.limited db.old) (room_of stack.old) h (checking_variables session.old) (given_number session.old) (accepted_count session.old) (D.standing db.old) (saved stack.old) → ToChecking (D.limited db.new) (room_of stack.new) (with_trace (D.limited db.old) (room_of stack.old) h text.now) (checking_variables session.new) (given_number session.new) (accepted_count session.new) (D.standing db.new) (saved stack.new) }
 {
     read_sized(text, session, db, stack, marks)
 }

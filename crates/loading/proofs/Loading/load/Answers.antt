@@ -6,7 +6,7 @@ use Rattle.loading.proofs.Loading.load.Goals as goal
 
 pub returns : goal.returns
 returns g c =
-    let e = c.load-list.ensures in
+    let e = c.load_list.ensures in
     let v = formula_variables c.args.self.now in
     let k = loaded_count c.args.self.now in
     let l = g.D.ClauseDatabase.limited c.args.db.now in
@@ -18,5 +18,5 @@ returns g c =
       variables = e.variables;
       standing = e.standing;
       limits = e.limits;
-      history = λ room saves h t. same_loading l _ room (after h (load c.args.list.now (fault_of c.load-list.result))) v _ _ _ saves e.limits e.variables (load_leads l room h v s saves k _ _ c.args.list.now (fault_of c.load-list.result) t e.fault e.loaded e.standing);
+      history = λ room saves h t. same_loading l _ room (after h (load c.args.list.now (fault_of c.load_list.result))) v _ _ _ saves e.limits e.variables (load_leads l room h v s saves k _ _ c.args.list.now (fault_of c.load_list.result) t e.fault e.loaded e.standing);
     }

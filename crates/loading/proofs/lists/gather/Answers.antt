@@ -12,7 +12,7 @@ invariant_of-insert c =
     let f : SFits w16 x = search rules in
     let r = literal_at 512 0 c.args.list.now c.loop-i.i c.requires.literals c.loop-i-test.true in
     let v = ap nat_abs (to_z-of_z w16 x f) in
-    (omega arith, (omega arith, tt))
+    record { low = omega arith; high = omega arith }
 
 pub returns-then-not-insert : goal.returns-then-not-insert
 returns-then-not-insert c =

@@ -17,22 +17,22 @@ invariant_of-l c =
     let f : SFits w16 x = search rules in
     let r = literal_at 512 0 c.args.list.now c.loop-x.x-index c.requires c.loop-x-test.true in
     let v = ap nat_abs (to_z-of_z w16 x f) in
-    (omega arith, (omega arith, tt))
+    record { low = omega arith; high = omega arith }
 
-pub returns-then-marks-mark-place-eq1 : goal.returns-then-marks-mark-place-eq1
-returns-then-marks-mark-place-eq1 c =
+pub returns-then-marks-mark_place-eq1 : goal.returns-then-marks-mark_place-eq1
+returns-then-marks-mark_place-eq1 c =
     let x = get_or c.args.list.now c.loop-x.x-index (pos 0) in
     let f : SFits w16 x = search rules in
-    let b = before c.args.list.now c.loop-x.x-index _ (to_z-of_z w16 x f) c.requires c.loop-x-test.true c.loop-x.marks c.loop-x.invariant.0 c.negated-n.result.value c.negated-n.ensures c.mark-place.result c.mark-place.ensures.value in
-    pair_hit c.args.list.now c.loop-x.x-index _ (to_z-of_z w16 x f) c.loop-x-test.true c.loop-x.invariant.1 (sym b ∙ eq-eqb _ 1 c.if-marks-mark-place-eq1.true)
+    let b = before c.args.list.now c.loop-x.x-index _ (to_z-of_z w16 x f) c.requires c.loop-x-test.true c.loop-x.marks c.loop-x.invariant.0 c.negated-n.result.value c.negated-n.ensures c.mark_place.result c.mark_place.ensures.value in
+    pair_hit c.args.list.now c.loop-x.x-index _ (to_z-of_z w16 x f) c.loop-x-test.true c.loop-x.invariant.1 (sym b ∙ eq-eqb _ 1 c.if-marks-mark_place-eq1.true)
 
 pub loop-x-preserved : goal.loop-x-preserved
 loop-x-preserved c =
     let x = get_or c.args.list.now c.loop-x.x-index (pos 0) in
     let f : SFits w16 x = search rules in
-    let b = before c.args.list.now c.loop-x.x-index _ (to_z-of_z w16 x f) c.requires c.loop-x-test.true c.loop-x.marks c.loop-x.invariant.0 c.negated-n.result.value c.negated-n.ensures c.mark-place.result c.mark-place.ensures.value in (
-      marked_at c.args.list.now c.loop-x.x-index _ (to_z-of_z w16 x f) c.requires c.loop-x-test.true c.loop-x.marks c.loop-x.invariant.0 c.loop-x.invariant.2 c.mark-place-in-loop-x.result c.mark-place-in-loop-x.ensures.value,
-      pair_miss c.args.list.now c.loop-x.x-index _ (to_z-of_z w16 x f) c.loop-x-test.true c.loop-x.invariant.1 (sym b ∙ ne_eqb _ 1 c.if-marks-mark-place-eq1.false),
+    let b = before c.args.list.now c.loop-x.x-index _ (to_z-of_z w16 x f) c.requires c.loop-x-test.true c.loop-x.marks c.loop-x.invariant.0 c.negated-n.result.value c.negated-n.ensures c.mark_place.result c.mark_place.ensures.value in (
+      marked_at c.args.list.now c.loop-x.x-index _ (to_z-of_z w16 x f) c.requires c.loop-x-test.true c.loop-x.marks c.loop-x.invariant.0 c.loop-x.invariant.2 c.mark_place-in-loop-x.result c.mark_place-in-loop-x.ensures.value,
+      pair_miss c.args.list.now c.loop-x.x-index _ (to_z-of_z w16 x f) c.loop-x-test.true c.loop-x.invariant.1 (sym b ∙ ne_eqb _ 1 c.if-marks-mark_place-eq1.false),
       length-set c.loop-x.marks _ 1 ∙ c.loop-x.invariant.2,
     )
 
