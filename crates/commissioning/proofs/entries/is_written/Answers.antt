@@ -8,4 +8,4 @@ pub returns-then-len-text : goal.returns-then-len-text
 returns-then-len-text c front rest e l t =
     let buffer = c.args.buffer.now in
     let text = c.args.text.now in
-    same_front buffer front rest text (drop (length text) buffer) e ((starts_is Decides-eqb buffer text _ c.starts-with.ensures.value).0 t) (sym l ∙ c.if-len-text.true)
+    same_front buffer front rest text (drop (length text) buffer) e ((starts_is Decides-eqb buffer text _ c.starts_with.ensures.value).0 t) (sym l ∙ c.if-len-text.true)

@@ -16,4 +16,4 @@ loop-found-preserved g c =
     (remove_step _ _ c.args.pivot.value c.loop-found.at _ _ (entry_of c.in-Some.found) c.lawful.ensures.in_order c.loop-found.invariant.0 (sym c.in-Some.ensures) _ _ c.remove.ensures.fault c.remove.ensures.after, c.remove.ensures.limits ∙ c.loop-found.invariant.1)
 
 pub returns : goal.returns
-returns g c = record { after = remove_done c.args.pivot.value c.loop-found.at _ _ c.loop-found.invariant.0 (sym c.in-default.ensures); limits = c.loop-found.invariant.1 }
+returns g c = record { after = remove_done c.args.pivot.value c.loop-found.at _ _ c.loop-found.invariant.0 (sym c.in_default.ensures); limits = c.loop-found.invariant.1 }

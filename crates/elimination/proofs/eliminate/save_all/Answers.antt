@@ -24,4 +24,4 @@ loop-found-preserved g c =
     (save_step (room_of c.args.stack.now) (saved c.args.stack.now) (eliminated c.args.pivot.value (g.D.ClauseDatabase.standing c.args.db.now)) (saved c.loop-found.stack) _ x c.requires (ap (λ xs. saved c.loop-found.stack ++ xs) (sym n) ∙ c.loop-found.invariant.0) (room_of c.loop-found.stack) c.loop-found.invariant.1 _ _ c.save.ensures.fault c.save.ensures.after, c.save.ensures.room ∙ c.loop-found.invariant.1)
 
 pub returns : goal.returns
-returns g c = record { saved = append_done (saved c.loop-found.stack) _ _ (saved_done c.args.pivot.value c.loop-found.at (g.D.ClauseDatabase.standing c.args.db.now) (sym c.in-default.ensures)) c.loop-found.invariant.0; room = c.loop-found.invariant.1 }
+returns g c = record { saved = append_done (saved c.loop-found.stack) _ _ (saved_done c.args.pivot.value c.loop-found.at (g.D.ClauseDatabase.standing c.args.db.now) (sym c.in_default.ensures)) c.loop-found.invariant.0; room = c.loop-found.invariant.1 }

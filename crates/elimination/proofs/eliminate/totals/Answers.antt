@@ -13,11 +13,11 @@ loop-found-init g c =
     let b = ap saved_literals p in
     (omega arith, omega arith, omega arith, omega arith, omega arith)
 
-pub overflow-add-clauses : goal.overflow-add-clauses
-overflow-add-clauses g c = let i = c.loop-found.invariant.2 in let k = c.loop-found.invariant.4 in search rules
+pub overflow_add-clauses : goal.overflow_add-clauses
+overflow_add-clauses g c = let i = c.loop-found.invariant.2 in let k = c.loop-found.invariant.4 in search rules
 
-pub overflow-add-literals : goal.overflow-add-literals
-overflow-add-literals g c = let i = c.loop-found.invariant.3 in let k = c.loop-found.invariant.4 in let f = c.in-Some.found.clause.few in search rules
+pub overflow_add-literals : goal.overflow_add-literals
+overflow_add-literals g c = let i = c.loop-found.invariant.3 in let k = c.loop-found.invariant.4 in let f = c.in-Some.found.clause.few in search rules
 
 pub loop-found-smaller : goal.loop-found-smaller
 loop-found-smaller g c =
@@ -36,7 +36,7 @@ loop-found-preserved g c =
 
 pub returns : goal.returns
 returns g c =
-    let p = saved_done c.args.pivot.value c.loop-found.at (g.D.ClauseDatabase.standing c.args.db.now) (sym c.in-default.ensures) in
+    let p = saved_done c.args.pivot.value c.loop-found.at (g.D.ClauseDatabase.standing c.args.db.now) (sym c.in_default.ensures) in
     let a = ap length p in
     let b = ap saved_literals p in
     let i = c.loop-found.invariant.0 in

@@ -5,7 +5,7 @@ use Rattle.files.proofs.checking.check_files.Goals as goal
 
 pub returns : goal.returns
 returns g c =
-    let e = c.check-both.ensures in
+    let e = c.check_both.ensures in
     record {
       outcome = e.outcome;
       limits = e.limits;
@@ -13,5 +13,5 @@ returns g c =
       marks = e.marks;
       history = λ clean.
           files_lead c.args.marks.now (g.D.ClauseDatabase.limited c.args.db.now) (room_of c.args.stack.now) (g.D.ClauseDatabase.standing c.args.db.now) (saved c.args.stack.now) (length c.args.buffer.now) clean
-          c.args.formula.now c.args.trace.now c.check-both.result _ _ _ _ e.outcome;
+          c.args.formula.now c.args.trace.now c.check_both.result _ _ _ _ e.outcome;
     }

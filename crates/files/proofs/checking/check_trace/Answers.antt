@@ -8,15 +8,15 @@ use Rattle.files.proofs.checking.check_trace.Goals as goal
 
 pub returns : goal.returns
 returns g c =
-    let e = c.in-ok-read-trace.ensures in
+    let e = c.in_ok-read_trace.ensures in
     let n = length c.args.buffer.now in
-    let last = c.read-trace.new in
+    let last = c.read_trace.new in
     let s = g.D.ClauseDatabase.standing last.db in
     let saves = saved last.stack in
     let p' = progress last.session s saves in
     record {
-      outcome = subst (λ (o : Whole). Answers o c.finish-and-write.result s saves c.args.buffer.now c.finish-and-write.new.buffer)
-          (ap (λ v. written n v p') e.variables ∙ ap (traced n (checking_variables c.args.session)) e.outcome) (c.finish-and-write.ensures.outcome saves);
+      outcome = subst (λ (o : Whole). Answers o c.finish_and_write.result s saves c.args.buffer.now c.finish_and_write.new.buffer)
+          (ap (λ v. written n v p') e.variables ∙ ap (traced n (checking_variables c.args.session)) e.outcome) (c.finish_and_write.ensures.outcome saves);
       limits = e.limits;
       room = e.room;
       marks = e.marks;

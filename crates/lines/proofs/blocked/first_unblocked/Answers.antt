@@ -18,10 +18,10 @@ loop-k-preserved-else-unblocked g c =
 
 pub loop-k-preserved : goal.loop-k-preserved
 loop-k-preserved g c =
-    absurd (read_there c.args.pivot.value (lits_of c.args.clause.now) _ _ c.loop-k.above c.in-Some.k.value (g.D.ClauseDatabase.standing c.args.db.now) c.lawful.ensures.in_order c.in-Some.ensures c.loop-k.invariant c.in-default-clause.ensures)
+    absurd (read_there c.args.pivot.value (lits_of c.args.clause.now) _ _ c.loop-k.above c.in-Some.k.value (g.D.ClauseDatabase.standing c.args.db.now) c.lawful.ensures.in_order c.in-Some.ensures c.loop-k.invariant c.in_default-clause.ensures)
 
 pub returns : goal.returns
-returns g c = walk_ends c.args.pivot.value (lits_of c.args.clause.now) c.loop-k.above (g.D.ClauseDatabase.standing c.args.db.now) c.in-default.ensures c.loop-k.invariant
+returns g c = walk_ends c.args.pivot.value (lits_of c.args.clause.now) c.loop-k.above (g.D.ClauseDatabase.standing c.args.db.now) c.in_default.ensures c.loop-k.invariant
 
 pub loop-k-smaller-else-unblocked : goal.loop-k-smaller-else-unblocked
 loop-k-smaller-else-unblocked g c =

@@ -5,17 +5,17 @@ use Rattle.marking.proofs.Unions.{unopposed}
 use Rattle.lines.proofs.Resolves.{first_missing, second_missing, first_lacking, second_lacking, tautology, too_wide, derived}
 use Rattle.lines.proofs.resolve.judge.Goals as goal
 
-pub returns-in-default : goal.returns-in-default
-returns-in-default g c =
+pub returns-in_default : goal.returns-in_default
+returns-in_default g c =
     record {
-      judged = first_missing c.args.given c.args.number.value c.args.pivot.value c.args.first.value c.args.second.value (g.D.ClauseDatabase.standing c.args.db.now) (omega arith) c.in-default.ensures;
+      judged = first_missing c.args.given c.args.number.value c.args.pivot.value c.args.first.value c.args.second.value (g.D.ClauseDatabase.standing c.args.db.now) (omega arith) c.in_default.ensures;
       marks = c.requires;
     }
 
-pub returns-in-default-clause : goal.returns-in-default-clause
-returns-in-default-clause g c =
+pub returns-in_default-clause : goal.returns-in_default-clause
+returns-in_default-clause g c =
     record {
-      judged = second_missing c.args.given c.args.number.value c.args.pivot.value c.args.first.value c.args.second.value (g.D.ClauseDatabase.standing c.args.db.now) (omega arith) _ c.in-Some.ensures c.in-default-clause.ensures;
+      judged = second_missing c.args.given c.args.number.value c.args.pivot.value c.args.first.value c.args.second.value (g.D.ClauseDatabase.standing c.args.db.now) (omega arith) _ c.in-Some.ensures c.in_default-clause.ensures;
       marks = c.requires;
     }
 

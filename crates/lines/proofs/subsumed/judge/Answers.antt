@@ -4,13 +4,13 @@ use Rattle.marking.proofs.Clashes.{marks_cover_is}
 use Rattle.lines.proofs.Judges.{s_clause_missing, s_first_missing, s_same, s_not_in, s_passes}
 use Rattle.lines.proofs.subsumed.judge.Goals as goal
 
-pub returns-in-default : goal.returns-in-default
-returns-in-default g c =
-    record { fault = s_clause_missing c.args.clause.value c.args.first.value (g.D.ClauseDatabase.standing c.args.db.now) c.in-default.ensures; marks = c.requires }
+pub returns-in_default : goal.returns-in_default
+returns-in_default g c =
+    record { fault = s_clause_missing c.args.clause.value c.args.first.value (g.D.ClauseDatabase.standing c.args.db.now) c.in_default.ensures; marks = c.requires }
 
-pub returns-in-default-clause : goal.returns-in-default-clause
-returns-in-default-clause g c =
-    record { fault = s_first_missing c.args.clause.value c.args.first.value (g.D.ClauseDatabase.standing c.args.db.now) _ c.in-Some.ensures c.in-default-clause.ensures; marks = c.requires }
+pub returns-in_default-clause : goal.returns-in_default-clause
+returns-in_default-clause g c =
+    record { fault = s_first_missing c.args.clause.value c.args.first.value (g.D.ClauseDatabase.standing c.args.db.now) _ c.in-Some.ensures c.in_default-clause.ensures; marks = c.requires }
 
 pub returns-then-clause-first : goal.returns-then-clause-first
 returns-then-clause-first g c =

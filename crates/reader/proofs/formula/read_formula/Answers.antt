@@ -4,7 +4,7 @@ use Rattle.reader.proofs.formula.read_formula.Goals as goal
 
 pub returns : goal.returns
 returns g c =
-    let e = c.read-sized.ensures in
+    let e = c.read_sized.ensures in
     record {
       outcome = e.outcome;
       limits = e.limits;

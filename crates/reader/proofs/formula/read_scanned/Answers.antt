@@ -13,7 +13,7 @@ returns-in-Err g c =
     let q = rest_of c.args.scanner.now in
     record {
       outcome = record {
-        fault = refused_fault l s (saved c.args.stack.now) t q c.in-Err.fault h.fault c.header.new.self.text.now (rest_of c.header.new.self) c.here.result c.at-line.result (ap (λ (r : Bor (List ℕ)). r.now) h.text) h.rest c.here.ensures c.at-line.ensures;
+        fault = refused_fault l s (saved c.args.stack.now) t q c.in-Err.fault h.fault c.header.new.self.text.now (rest_of c.header.new.self) c.here.result c.at_line.result (ap (λ (r : Bor (List ℕ)). r.now) h.text) h.rest c.here.ensures c.at_line.ensures;
         variables = tt;
         loaded = tt;
         entries = refused_entries l s (saved c.args.stack.now) t q c.in-Err.fault h.fault;

@@ -6,4 +6,4 @@ use Rattle.std.proofs.lemmas.Bool.Decides.{Decides-eqb}
 
 pub returns : goal.returns
 returns c =
-    header_is c.args.line.now _ ((starts_is Decides-eqb c.args.line.now (codes "p cnf ") _ c.starts-with.ensures.value).0 c.if-not-starts-with.false) c.read-counts.ensures
+    header_is c.args.line.now _ ((starts_is Decides-eqb c.args.line.now (codes "p cnf ") _ c.starts_with.ensures.value).0 c.if-not-starts_with.false) c.read_counts.ensures

@@ -27,8 +27,8 @@ returns c =
     let p = power_seven c.loop-digit.digit-index (omega arith) in
     record { value = grind arith; small = omega arith }
 
-pub overflow-mul-total : goal.overflow-mul-total
-overflow-mul-total c = let p = power_seven c.loop-digit.digit-index (omega arith) in omega arith
+pub overflow_mul-total : goal.overflow_mul-total
+overflow_mul-total c = let p = power_seven c.loop-digit.digit-index (omega arith) in omega arith
 
-pub overflow-add-total : goal.overflow-add-total
-overflow-add-total c = let p = power_seven c.loop-digit.digit-index (omega arith) in omega arith
+pub overflow_add-total : goal.overflow_add-total
+overflow_add-total c = let p = power_seven c.loop-digit.digit-index (omega arith) in omega arith

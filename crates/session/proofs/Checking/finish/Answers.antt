@@ -7,11 +7,11 @@ use Rattle.session.proofs.Checking.finish.Goals as goal
 
 pub returns : goal.returns
 returns g c =
-    let e = c.finish-checking.ensures in
+    let e = c.finish_checking.ensures in
     let me = c.args.self in
     let l = g.D.ClauseDatabase.limited c.args.db.now in
     let s = g.D.ClauseDatabase.standing c.args.db.now in
-    let counts = c.finish-checking.result.1 in
+    let counts = c.finish_checking.result.1 in
     record {
       variables = e.variables;
       accepted = e.accepted;

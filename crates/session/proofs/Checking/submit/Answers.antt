@@ -9,13 +9,13 @@ use Rattle.session.proofs.Checking.submit.Goals as goal
 
 pub returns : goal.returns
 returns g c =
-    let e = c.submit-line.ensures in
+    let e = c.submit_line.ensures in
     let me = c.args.self.now in
     let l = g.D.ClauseDatabase.limited c.args.db.now in
     let s = g.D.ClauseDatabase.standing c.args.db.now in
     let room = room_of c.args.stack.now in
     let saves = saved c.args.stack.now in
-    let f = fault_of c.submit-line.result in
+    let f = fault_of c.submit_line.result in
     record {
       fault = e.fault;
       variables = e.variables;

@@ -6,5 +6,5 @@ use Rattle.std.proofs.lemmas.Bool.Decides.{Decides-eqb}
 
 pub returns : goal.returns
 returns c =
-    let e = c.starts-with.ensures in
+    let e = c.starts_with.ensures in
     record { named = begins_told names c.args.text.now _ (starts_is Decides-eqb c.args.text.now names _ e.value); long = e.bound }

@@ -4,7 +4,7 @@ use Rattle.trace.proofs.reading.read_sized.Goals as goal
 
 pub returns : goal.returns
 returns g c =
-    let e = c.read-named.ensures in
+    let e = c.read_named.ensures in
     record {
       outcome = e.outcome ∙ sym (cond-true (leb (length c.args.text.now) 65536) _ _ (le-leb _ _ c.if-text-gt65536.false));
       variables = e.variables;

@@ -10,13 +10,13 @@ use Rattle.trace.proofs.reading.read_trace.Goals as goal
 
 pub returns : goal.returns
 returns g c =
-    let e = c.read-sized.ensures in
+    let e = c.read_sized.ensures in
     let l = g.D.ClauseDatabase.limited c.args.db.now in
     let room = room_of c.args.stack.now in
     let v = checking_variables c.args.session.now in
     let text = c.args.text.now in
     let p = progress c.args.session.now (g.D.ClauseDatabase.standing c.args.db.now) (saved c.args.stack.now) in
-    let last = c.read-sized.new in
+    let last = c.read_sized.new in
     let p' = progress last.session (g.D.ClauseDatabase.standing last.db) (saved last.stack) in
     record {
       outcome = e.outcome;

@@ -8,7 +8,7 @@ pub returns-then-end-text : goal.returns-then-end-text
 returns-then-end-text g c =
     let p = progress c.args.session.now (g.D.ClauseDatabase.standing c.args.db.now) (saved c.args.stack.now) in
     record {
-      step = line_cut c.args.marks.now (g.D.ClauseDatabase.limited c.args.db.now) (room_of c.args.stack.now) p c.args.text.now c.line-end-end.result c.line-end-end.ensures.value p c.requires c.if-end-text.true refl;
+      step = line_cut c.args.marks.now (g.D.ClauseDatabase.limited c.args.db.now) (room_of c.args.stack.now) p c.args.text.now c.line_end-end.result c.line_end-end.ensures.value p c.requires c.if-end-text.true refl;
       variables = refl;
       limits = refl;
       room = refl;
@@ -20,7 +20,7 @@ returns-in-Ok g c =
     let p = progress c.args.session.now (g.D.ClauseDatabase.standing c.args.db.now) (saved c.args.stack.now) in
     let e = c.in-Ok.ensures in
     record {
-      step = line_accepted c.args.marks.now (g.D.ClauseDatabase.limited c.args.db.now) (room_of c.args.stack.now) p c.args.text.now c.line-end-end.result c.line-end-end.ensures.value _ (omega (arith, c.line-end-end.ensures.fits)) e.fault e.after;
+      step = line_accepted c.args.marks.now (g.D.ClauseDatabase.limited c.args.db.now) (room_of c.args.stack.now) p c.args.text.now c.line_end-end.result c.line_end-end.ensures.value _ (omega (arith, c.line_end-end.ensures.fits)) e.fault e.after;
       variables = e.variables;
       limits = e.limits;
       room = e.room;
@@ -32,7 +32,7 @@ returns-in-Err g c =
     let p = progress c.args.session.now (g.D.ClauseDatabase.standing c.args.db.now) (saved c.args.stack.now) in
     let e = c.in-Err.ensures in
     record {
-      step = line_refused c.args.marks.now (g.D.ClauseDatabase.limited c.args.db.now) (room_of c.args.stack.now) p c.args.text.now c.line-end-end.result c.line-end-end.ensures.value _ c.in-Err.fault (omega (arith, c.line-end-end.ensures.fits)) e.fault e.after;
+      step = line_refused c.args.marks.now (g.D.ClauseDatabase.limited c.args.db.now) (room_of c.args.stack.now) p c.args.text.now c.line_end-end.result c.line_end-end.ensures.value _ c.in-Err.fault (omega (arith, c.line_end-end.ensures.fits)) e.fault e.after;
       variables = e.variables;
       limits = e.limits;
       room = e.room;

@@ -11,10 +11,10 @@ returns-in-Err g c =
     let l = c.loop-at in
     let v = l.invariant in
     let p = progress l.session (g.D.ClauseDatabase.standing l.db) (saved l.stack) in
-    let p' = progress c.send-first.new.session (g.D.ClauseDatabase.standing c.send-first.new.db) (saved c.send-first.new.stack) in
+    let p' = progress c.send_first.new.session (g.D.ClauseDatabase.standing c.send_first.new.db) (saved c.send_first.new.stack) in
     let e = c.in-Err.ensures in
     record {
-      outcome = ap (λ (x : LocatedFault). record { fault = Some x; reached = p' }) c.at-line.ensures ∙ step_refused c.args.marks.now (g.D.ClauseDatabase.limited c.args.db.now) (room_of c.args.stack.now) c.args.text.now l.at l.line p _ v.0 _ _ _ p' c.in-Err.fault v.4 v.2 v.3 e.step;
+      outcome = ap (λ (x : LocatedFault). record { fault = Some x; reached = p' }) c.at_line.ensures ∙ step_refused c.args.marks.now (g.D.ClauseDatabase.limited c.args.db.now) (room_of c.args.stack.now) c.args.text.now l.at l.line p _ v.0 _ _ _ p' c.in-Err.fault v.4 v.2 v.3 e.step;
       variables = e.variables ∙ v.1;
       limits = e.limits ∙ v.2;
       room = e.room ∙ v.3;
@@ -26,7 +26,7 @@ loop-at-preserved g c =
     let l = c.loop-at in
     let v = l.invariant in
     let p = progress l.session (g.D.ClauseDatabase.standing l.db) (saved l.stack) in
-    let p' = progress c.send-first.new.session (g.D.ClauseDatabase.standing c.send-first.new.db) (saved c.send-first.new.stack) in
+    let p' = progress c.send_first.new.session (g.D.ClauseDatabase.standing c.send_first.new.db) (saved c.send_first.new.stack) in
     let e = c.in-Ok.ensures in
     let s = step_taken c.args.marks.now (g.D.ClauseDatabase.limited c.args.db.now) (room_of c.args.stack.now) c.args.text.now l.at l.line p _ v.0 _ _ _ p' c.in-Ok.taken v.4 v.2 v.3 e.step v.6 in
     (s.0, e.variables ∙ v.1, e.limits ∙ v.2, e.room ∙ v.3, e.marks ∙ v.4, omega (arith, v.5, s.1), s.2)

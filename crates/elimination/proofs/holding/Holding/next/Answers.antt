@@ -20,7 +20,7 @@ pub loop-number-smaller : goal.loop-number-smaller
 loop-number-smaller g c = let r = step_rises _ _ _ c.lawful.ensures.in_order c.loop-number.at c.in-Some.number.value (sym c.in-Some.ensures) in search rules
 
 pub loop-number-preserved : goal.loop-number-preserved
-loop-number-preserved g c = absurd (step_stands _ _ _ c.lawful.ensures.in_order c.loop-number.at c.in-Some.number.value (sym c.in-Some.ensures) (sym c.in-default-clause.ensures))
+loop-number-preserved g c = absurd (step_stands _ _ _ c.lawful.ensures.in_order c.loop-number.at c.in-Some.number.value (sym c.in-Some.ensures) (sym c.in_default-clause.ensures))
 
 pub returns : goal.returns
-returns g c = let e = step_end (wants c.args.self.now) c.loop-number.at _ (sym c.in-default.ensures) in sym e ∙ c.loop-number.invariant
+returns g c = let e = step_end (wants c.args.self.now) c.loop-number.at _ (sym c.in_default.ensures) in sym e ∙ c.loop-number.invariant

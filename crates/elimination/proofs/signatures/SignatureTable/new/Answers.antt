@@ -15,5 +15,5 @@ pub loop-number-preserved : goal.loop-number-preserved
 loop-number-preserved g c =
     let i = c.loop-number.invariant in
     let f : c.loop-number.len < 1024 = omega arith in
-    let t = table_step _ _ _ c.lawful.ensures.in_order c.loop-number.last c.in-Some.number.value (sym c.in-Some.ensures) c.loop-number.records c.loop-number.len (omega arith) i.3 i.4 _ c.signed-at.ensures in
+    let t = table_step _ _ _ c.lawful.ensures.in_order c.loop-number.last c.in-Some.number.value (sym c.in-Some.ensures) c.loop-number.records c.loop-number.len (omega arith) i.3 i.4 _ c.signed_at.ensures in
     (length-set _ _ _ ∙ i.0, omega arith, t.0, t.1, t.2)

@@ -6,4 +6,4 @@ pub returns-then-lists : goal.returns-then-lists
 returns-then-lists g c = c.if-lists.true ∙ listed_hit _ c.args.self.now.len _ (sym c.lists.ensures ∙ c.if-lists.true)
 
 pub returns-else-lists : goal.returns-else-lists
-returns-else-lists g c = c.stands-above.ensures ∙ listed_miss _ c.args.self.now.len c.args.self.now.last _ c.requires.beyond (sym c.lists.ensures ∙ c.if-lists.false)
+returns-else-lists g c = c.stands_above.ensures ∙ listed_miss _ c.args.self.now.len c.args.self.now.last _ c.requires.beyond (sym c.lists.ensures ∙ c.if-lists.false)

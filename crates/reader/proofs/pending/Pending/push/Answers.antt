@@ -7,7 +7,7 @@ pub returns : goal.returns
 returns c =
     let p = c.args.self.now in
     let e = ap nat_abs (to_z-of_z w32 c.args.number c.ranges.number) in
-    let v : nat_abs c.args.number ≤ c.args.variables = omega (arith, c.unsigned-abs.ensures.value) in
+    let v : nat_abs c.args.number ≤ c.args.variables = omega (arith, c.unsigned_abs.ensures.value) in
     let k : length p.literals ≡ 1024 = search rules in
     record {
       fault = pushed_fault p.literals p.len c.args.variables c.args.number c.if-at-ge1024.false (omega arith) v;

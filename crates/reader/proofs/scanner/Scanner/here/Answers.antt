@@ -3,8 +3,8 @@ use Rattle.reader.proofs.Lines.{past_low, at_byte, at_empty, at_feed, at_other}
 use Rattle.reader.proofs.scanner.Scanner.here.Goals as goal
 use Rattle.reader.proofs.scanner.Scanner.here.Goals.{else-self-text-via-then-self-text+then-self-gt0+else-text-self-eq10, else-self-text-via-then-self-text+else-self-gt0, else-self-text-via-else-self-text}
 
-pub overflow-sub-result : goal.overflow-sub-result
-overflow-sub-result c = omega (arith, c.args.self.now.counted, past_low (take c.args.self.now.at c.args.self.now.text.now) 1)
+pub overflow_sub-result : goal.overflow_sub-result
+overflow_sub-result c = omega (arith, c.args.self.now.counted, past_low (take c.args.self.now.at c.args.self.now.text.now) 1)
 
 pub returns-then-text-self-eq10 : goal.returns-then-text-self-eq10
 returns-then-text-self-eq10 c =

@@ -7,8 +7,8 @@ pub loop-self-preserved : goal.loop-self-preserved
 loop-self-preserved c =
     let s = c.loop-self.self in
     let i = c.loop-self.invariant in
-    let e = comment_here s.text.now s.at s.line (rest_of c.skip-line.new.self) c.loop-self-test.true c.if-self-eq99.true c.skip-line.ensures.rest in
-    (c.skip-line.ensures.text ∙ i.0, sym e ∙ i.1)
+    let e = comment_here s.text.now s.at s.line (rest_of c.skip_line.new.self) c.loop-self-test.true c.if-self-eq99.true c.skip_line.ensures.rest in
+    (c.skip_line.ensures.text ∙ i.0, sym e ∙ i.1)
 
 pub returns-else-self-eq99 : goal.returns-else-self-eq99
 returns-else-self-eq99 c =

@@ -4,12 +4,12 @@ use Rattle.reader.proofs.scanner.Scanner.word_end.Goals as goal
 
 pub loop-end-preserved : goal.loop-end-preserved
 loop-end-preserved c =
-    let e = run_more c.args.self.now.text.now c.loop-end.end c.loop-end-test.true (sym c.is-blank.ensures ∙ c.if-not-is-blank.true) in
+    let e = run_more c.args.self.now.text.now c.loop-end.end c.loop-end-test.true (sym c.is_blank.ensures ∙ c.if-not-is_blank.true) in
     omega (arith, c.loop-end.invariant)
 
-pub returns-else-not-is-blank : goal.returns-else-not-is-blank
-returns-else-not-is-blank c =
-    let e = run_stopped c.args.self.now.text.now c.loop-end.end c.loop-end-test.true (sym c.is-blank.ensures ∙ c.if-not-is-blank.false) in
+pub returns-else-not-is_blank : goal.returns-else-not-is_blank
+returns-else-not-is_blank c =
+    let e = run_stopped c.args.self.now.text.now c.loop-end.end c.loop-end-test.true (sym c.is_blank.ensures ∙ c.if-not-is_blank.false) in
     omega (arith, c.loop-end.invariant)
 
 pub returns-after-loop-end : goal.returns-after-loop-end
