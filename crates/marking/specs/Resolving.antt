@@ -9,10 +9,15 @@ abbrev pub added : ℤ → List ℤ → List ℤ → List ℤ
 added e before [] = before
 added e before (x ∷ xs) = cond (same x e) (added e before xs) (added e (insert x before) xs)
 
--- all found room, and stand there; or they hold an opposite pair, or there are more than 64 of them
+-- all found room, and stand there; or there are more than 64 of them
 abbrev pub AddsTo : Bool → List ℤ → List ℤ → Type 0
 AddsTo true sum after = after ≡ sum
-AddsTo false sum after = Plain sum → 64 < length sum
+AddsTo false sum after = 64 < length sum
+
+-- the same of any literals: all found room, and stand there; or they hold an opposite pair, or there are more than 64 of them
+abbrev pub AddsUnopposed : Bool → List ℤ → List ℤ → Type 0
+AddsUnopposed true sum after = after ≡ sum
+AddsUnopposed false sum after = Plain sum → 64 < length sum
 
 -- the resolvent of a and b on l; none where it holds an opposite pair or has more than 64 literals
 abbrev pub clause_resolvent : ℤ → List ℤ → List ℤ → Option (List ℤ)

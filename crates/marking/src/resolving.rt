@@ -1,13 +1,15 @@
 ghost use Rattle.std.specs.Prelude.{◌≡◌};
 ghost use Rattle.std.specs.Option.{option_map};
 ghost use Rattle.words.specs.Meanings.{lits_of};
-ghost use Rattle.marking.specs.Resolving.{added, AddsTo, clause_resolvent};
+ghost use Rattle.acceptance.proofs.Sets.{Plain};
+ghost use Rattle.marking.specs.Resolving.{added, AddsTo, AddsUnopposed, clause_resolvent};
 
 use words::{Clause, Literal};
 
 // Puts the literals of a clause, but one, into another; tells whether all found room.
 fn add_all(to: &mut Clause, from: &Clause, except: Literal) -> bool
-    ensures { AddsTo result (added except.value (lits_of to.old) (lits_of from.now)) (lits_of to.new) }
+    ensures unopposed { AddsUnopposed result (added except.value (lits_of to.old) (lits_of from.now)) (lits_of to.new) }
+    ensures plain { Plain (added except.value (lits_of to.old) (lits_of from.now)) → AddsTo result (added except.value (lits_of to.old) (lits_of from.now)) (lits_of to.new) }
 {
     let all = from.literals();
     for x in all {

@@ -3,6 +3,7 @@ use Rattle.std.proofs.lemmas.List.{drop_all}
 use Rattle.std.proofs.lemmas.Int.{to_z-of_z}
 use Rattle.words.specs.Clauses.{rising, insert}
 use Rattle.words.specs.Meanings.{lits_of}
+use Rattle.acceptance.proofs.Sets.{Plain}
 use Rattle.marking.specs.Resolving.{added}
 use Rattle.marking.proofs.Looking.{ranged, next_literal}
 use Rattle.marking.proofs.Unions.{adds_not, adds_one, adds_too_many}
@@ -15,11 +16,13 @@ invariant_of-l c =
     (let all = ranged c.literals-all.result.now c.loop-x.x-index _ (to_z-of_z w16 _ q) (ap (rising 512 0) c.literals-all.ensures ∙ c.args.from.now.rises) c.loop-x-test.true in (record { low = all.0; high = all.1 }))
 
 pub returns-then-not-insert : goal.returns-then-not-insert
-returns-then-not-insert c plain =
+returns-then-not-insert c =
     let q : SFits w16 (get_or c.literals-all.result.now c.loop-x.x-index (pos 0)) = search rules in
     let ne : get_or c.literals-all.result.now c.loop-x.x-index (pos 0) ≡ c.args.except.value → ⊥ = search rules in
-    adds_too_many c.args.except.value _ (lits_of c.loop-x.to) _ (drop c.loop-x.x-index c.literals-all.result.now) (drop (c.loop-x.x-index + 1) c.literals-all.result.now)
-    (next_literal c.literals-all.result.now c.loop-x.x-index c.loop-x-test.true _ (to_z-of_z w16 _ q)) c.loop-x.invariant (λ s. ne (sym (to_z-of_z w16 _ q) ∙ s)) plain (sym c.insert.ensures.there ∙ c.if-not-insert.true)
+    let many = λ (p : Plain (added c.args.except.value (lits_of c.args.to.now) (lits_of c.args.from.now))).
+      adds_too_many c.args.except.value _ (lits_of c.loop-x.to) _ (drop c.loop-x.x-index c.literals-all.result.now) (drop (c.loop-x.x-index + 1) c.literals-all.result.now)
+      (next_literal c.literals-all.result.now c.loop-x.x-index c.loop-x-test.true _ (to_z-of_z w16 _ q)) c.loop-x.invariant (λ s. ne (sym (to_z-of_z w16 _ q) ∙ s)) p (sym c.insert.ensures.there ∙ c.if-not-insert.true) in
+    record { unopposed = many; plain = many }
 
 pub loop-x-preserved : goal.loop-x-preserved
 loop-x-preserved c =
@@ -40,4 +43,6 @@ loop-x-preserved c =
     ]
 
 pub returns : goal.returns
-returns c = sym (ap (λ l. added c.args.except.value (lits_of c.loop-x.to) l) (drop_all c.loop-x.x-index c.literals-all.result.now c.loop-x-test.false)) ∙ c.loop-x.invariant
+returns c =
+    let e = sym (ap (λ l. added c.args.except.value (lits_of c.loop-x.to) l) (drop_all c.loop-x.x-index c.literals-all.result.now c.loop-x-test.false)) ∙ c.loop-x.invariant in
+    record { unopposed = e; plain = λ p. e }
