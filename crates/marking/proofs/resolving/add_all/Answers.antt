@@ -20,8 +20,8 @@ returns-then-not-insert c =
     let q : SFits w16 (get_or c.literals-all.result.now c.loop-x.x-index (pos 0)) = search rules in
     let ne : get_or c.literals-all.result.now c.loop-x.x-index (pos 0) ≡ c.args.except.value → ⊥ = search rules in
     let many = λ (p : Plain (added c.args.except.value (lits_of c.args.to.now) (lits_of c.args.from.now))).
-      adds_too_many c.args.except.value _ (lits_of c.loop-x.to) _ (drop c.loop-x.x-index c.literals-all.result.now) (drop (c.loop-x.x-index + 1) c.literals-all.result.now)
-      (next_literal c.literals-all.result.now c.loop-x.x-index c.loop-x-test.true _ (to_z-of_z w16 _ q)) c.loop-x.invariant (λ s. ne (sym (to_z-of_z w16 _ q) ∙ s)) p (sym c.insert.ensures.there ∙ c.if-not-insert.true) in
+    adds_too_many c.args.except.value _ (lits_of c.loop-x.to) _ (drop c.loop-x.x-index c.literals-all.result.now) (drop (c.loop-x.x-index + 1) c.literals-all.result.now)
+    (next_literal c.literals-all.result.now c.loop-x.x-index c.loop-x-test.true _ (to_z-of_z w16 _ q)) c.loop-x.invariant (λ s. ne (sym (to_z-of_z w16 _ q) ∙ s)) p (sym c.insert.ensures.there ∙ c.if-not-insert.true) in
     record { unopposed = many; plain = many }
 
 pub loop-x-preserved : goal.loop-x-preserved
