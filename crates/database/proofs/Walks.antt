@@ -1,10 +1,8 @@
 -- Walks over a database by its next question: what is still to come after each step.
-use Rattle.std.proofs.Common.{◌≡◌, ℕ, ◌+◌, ◌<◌, ◌≤◌, Bool, true, false, cond, ◌&&◌, ◌||◌, eqb, ltb, leb, List, [], ◌∷◌, ℤ, Some, None, Option, sym, refl, ap, ◌∙◌, ⊎_elim, arith}
-use Rattle.std.proofs.lemmas.Bool.{cases_lt, cases_eq}
+use Rattle.std.proofs.Common.{◌≡◌, ℕ, ◌<◌, ◌≤◌, true, List, [], ◌∷◌, ℤ, Some, None, Option, refl, ap, ⊎_elim, arith}
+use Rattle.std.proofs.lemmas.Bool.{cases_lt}
 use Rattle.std.proofs.lemmas.Bool.Decides.{nat_tests}
-use Rattle.words.specs.Literals.{number_ok}
-use Rattle.words.specs.Clauses.{canonical}
-use Rattle.words.specs.Standing.{Entry, ordered, stands, under, next_above}
+use Rattle.words.specs.Standing.{Entry, ordered, under, next_above}
 use Rattle.database.specs.Walks.{above}
 
 -- at the start everything is to come

@@ -1,7 +1,6 @@
 -- Histories: the calls of one session with their answers. What stands, what was loaded and what was saved are reckoned
 -- from the calls and from which of them were accepted, never from a database.
-use Rattle.std.specs.Prelude.{ℕ, ◌+◌, Bool, true, false, cond, List, [], ◌∷◌, ◌++◌, length, ℤ, Some, None, Option, unsigned_abs}
-use Rattle.words.specs.declared.line.Kind.{Kind}
+use Rattle.std.specs.Prelude.{ℕ, ◌+◌, List, [], ◌∷◌, ◌++◌, length, ℤ, Some, None, Option, unsigned_abs}
 use Rattle.words.specs.declared.line.Kind.TheVariants.{Resolve, Subsumed, Blocked, Eliminate}
 use Rattle.words.specs.declared.line.Line.{Line}
 use Rattle.words.specs.declared.fault.SessionFault.{SessionFault}

@@ -1,12 +1,12 @@
 -- The law of histories: what holds of every run after every call, whatever the limits of database and reconstruction stack.
-use Rattle.std.specs.Prelude.{◌≡◌, ℕ, ◌-◌, ◌≤◌, Bool, true, ◌⊎◌, List, [], ◌∷◌, length, Some, None, Option, ◌≢◌, slice_index}
+use Rattle.std.specs.Prelude.{◌≡◌, ℕ, ◌-◌, ◌≤◌, true, ◌⊎◌, List, [], length, None, ◌≢◌, slice_index}
 use mathlib.Core.List.{Memᴰ}
 use Rattle.words.specs.declared.limits.Limits.{Limits}
 use Rattle.words.specs.Assignments.{assignment, all_met}
-use Rattle.words.specs.Standing.{Entry, clauses, ordered}
+use Rattle.words.specs.Standing.{clauses, ordered}
 use Rattle.rules.specs.Satisfying.{Satisfiable, Iff}
 use Rattle.rules.specs.Restoring.{Room, restored}
-use Rattle.rules.specs.Histories.{Event, load, seal, submit, finish, restore, write, History, opened, after, variables_of, loaded, standing_by, saved_by, given_by, accepted_by, pivots_by}
+use Rattle.rules.specs.Histories.{load, seal, submit, finish, restore, write, History, opened, after, variables_of, loaded, standing_by, saved_by, given_by, accepted_by, pivots_by}
 use Rattle.rules.specs.Runs.{Run}
 use Rattle.rules.specs.Obeying.{Stands, Loadable, Acceptable}
 

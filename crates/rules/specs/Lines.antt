@@ -1,7 +1,6 @@
 -- The four kinds of proof lines: the fields in range, the rule with its checks in order, the space, and what an accepted line changes.
-use Rattle.std.specs.Prelude.{ℕ, ◌+◌, Bool, true, false, cond, not, ◌&&◌, ◌||◌, List, [], ◌∷◌, ◌++◌, length, ℤ, neg_ℤ, Some, None, Option, ◌==◌, nat_le, nat_lt, unsigned_abs}
+use Rattle.std.specs.Prelude.{ℕ, ◌+◌, Bool, true, false, cond, not, ◌&&◌, ◌||◌, List, [], ◌∷◌, length, ℤ, neg_ℤ, Some, None, Option, ◌==◌, nat_le, nat_lt, unsigned_abs}
 use Rattle.words.specs.declared.limits.Limits.{Limits}
-use Rattle.words.specs.declared.line.Kind.{Kind}
 use Rattle.words.specs.declared.line.Kind.TheVariants.{Resolve, Subsumed, Blocked, Eliminate}
 use Rattle.words.specs.declared.line.Line.{Line}
 use Rattle.words.specs.declared.fault.SessionFault.{SessionFault}

@@ -1,9 +1,9 @@
 -- Opening a session and loading a list of literals.
-use Rattle.std.specs.Prelude.{ℕ, ◌+◌, Bool, true, false, cond, List, [], ◌∷◌, length, ℤ, Some, None, Option, ◌==◌, nat_le, nat_lt}
+use Rattle.std.specs.Prelude.{ℕ, ◌+◌, cond, List, [], ◌∷◌, length, ℤ, Some, None, Option, ◌==◌, nat_le, nat_lt}
 use Rattle.words.specs.declared.limits.Limits.{Limits}
 use Rattle.words.specs.declared.fault.SessionFault.{SessionFault}
 use Rattle.words.specs.declared.fault.SessionFault.TheVariants.{DatabaseNotEmpty, StackNotEmpty, TooManyVariables, LoadedFull, LiteralBeyond, TooManyLiterals, Database}
-use Rattle.words.specs.Checks.{check, ◌then◌, inside, unless}
+use Rattle.words.specs.Checks.{check, ◌then◌, inside}
 use Rattle.words.specs.Clauses.{opposed, gathered, too_many_at}
 use Rattle.words.specs.Literals.{literal_ok}
 use Rattle.words.specs.Standing.{Entry, inserted, put_fault}

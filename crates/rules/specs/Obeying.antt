@@ -1,7 +1,6 @@
 -- When a line or a list should be accepted, as relations: nothing here is a step of the checker.
-use Rattle.std.specs.Prelude.{◌≡◌, ℕ, ◌+◌, ◌<◌, ◌≤◌, Bool, true, false, ◌⊎◌, List, [], ◌∷◌, length, ℤ, pos, neg_ℤ, Some, None, Option, ◌≢◌, unsigned_abs}
+use Rattle.std.specs.Prelude.{◌≡◌, ℕ, ◌+◌, ◌<◌, ◌≤◌, true, ◌⊎◌, List, [], length, ℤ, pos, neg_ℤ, Some, None, ◌≢◌, unsigned_abs}
 use Rattle.words.specs.declared.limits.Limits.{Limits}
-use Rattle.words.specs.declared.line.Kind.{Kind}
 use Rattle.words.specs.declared.line.Kind.TheVariants.{Resolve, Subsumed, Blocked, Eliminate}
 use Rattle.words.specs.declared.line.Line.{Line}
 use Rattle.words.specs.Clauses.{has, gathered}

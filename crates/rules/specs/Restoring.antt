@@ -1,5 +1,5 @@
 -- The reconstruction stack (the customers' roll): saved clauses with their pivots, the first saved first; and restoring.
-use Rattle.std.specs.Prelude.{ℕ, ◌+◌, Bool, true, false, cond, List, [], ◌∷◌, length, ℤ, Some, None, Option, ◌==◌, nat_le}
+use Rattle.std.specs.Prelude.{ℕ, ◌+◌, cond, List, [], ◌∷◌, length, ℤ, Some, None, Option, ◌==◌, nat_le}
 use Rattle.words.specs.declared.fault.StackFault.{StackFault}
 use Rattle.words.specs.declared.fault.StackFault.TheVariants.{EntriesFull, LiteralsFull}
 use Rattle.words.specs.declared.fault.SessionFault.{SessionFault}

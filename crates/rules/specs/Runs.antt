@@ -1,14 +1,13 @@
 -- Runs: histories in which every call was allowed and answered as the definitions say, on a database and a
 -- reconstruction stack of given limits.
-use Rattle.std.specs.Prelude.{◌≡◌, ℕ, ◌≤◌, Bool, true, cond, eqb, List, [], ◌∷◌, length, Option}
+use Rattle.std.specs.Prelude.{◌≡◌, ℕ, ◌≤◌, cond, List, [], length}
 use Rattle.words.specs.declared.limits.Limits.{Limits}
-use Rattle.words.specs.declared.fault.SessionFault.{SessionFault}
 use Rattle.words.specs.Checks.{unless}
 use Rattle.words.specs.Standing.{Entry}
 use Rattle.rules.specs.Restoring.{Room, restored, restore_fault}
 use Rattle.rules.specs.Loading.{load_fault}
 use Rattle.rules.specs.Lines.{line_fault, some_equal}
-use Rattle.rules.specs.Histories.{Event, load, seal, submit, finish, restore, write, History, opened, after, Phase, loading, checking, finished, phase, variables_of, loaded, standing_by, saved_by, given_by, accepted_by}
+use Rattle.rules.specs.Histories.{Event, load, seal, submit, finish, restore, write, History, opened, after, loading, checking, finished, phase, variables_of, loaded, standing_by, saved_by, given_by, accepted_by}
 
 -- 1 where the empty clause stands, else 0
 abbrev pub empty_stands : List Entry → ℕ

@@ -1,6 +1,6 @@
 -- Assignments. An assignment of n variables is a list of n bytes, each 0 or 1; variable v has the byte at place v - 1.
 -- A literal v is true at 1, and -v at 0. A literal whose variable lies beyond the list is false, whatever its sign.
-use Rattle.std.specs.Prelude.{ℕ, ◌+◌, ◌-◌, Bool, true, false, cond, ◌&&◌, ◌||◌, List, [], ◌∷◌, length, ℤ, pos, negsuc, ◌==◌, nat_le, slice_index, slice_set, unsigned_abs}
+use Rattle.std.specs.Prelude.{ℕ, ◌-◌, Bool, true, false, ◌&&◌, ◌||◌, List, [], ◌∷◌, length, ℤ, pos, negsuc, ◌==◌, nat_le, slice_index, slice_set, unsigned_abs}
 
 -- whether every byte of a list is 0 or 1
 abbrev pub all_bits : List ℕ → Bool

@@ -1,5 +1,5 @@
 -- Checks that run in order: the first that fails gives the fault.
-use Rattle.std.specs.Prelude.{Bool, true, false, cond, Some, None, Ok, Err, Option, Result}
+use Rattle.std.specs.Prelude.{Bool, cond, Some, None, Ok, Err, Option, Result}
 
 -- one check: no fault where the test holds, else this one
 abbrev pub check : {F : Type 0} → Bool → F → Option F
