@@ -149,8 +149,8 @@ pub fn drive<D: ClauseDatabase>(
 ) -> Result<(), Fail> {
     let mut model = Model::new(heap, limits);
     same(rt, db, &model)?;
-    for (i, call) in calls.iter().enumerate() {
-        step(rt, heap, db, &mut model, call).note(i)?;
+    for call in calls.iter() {
+        step(rt, heap, db, &mut model, call)?;
     }
     Ok(())
 }
@@ -178,16 +178,16 @@ pub fn drive_random<D: ClauseDatabase>(
     let mut random = Random {
         state: 0x9e37_79b9_7f4a_7c15,
     };
-    for i in 0..mix.turns {
+    for _ in 0..mix.turns {
         let at = random.below(mix.numbers).saturating_add(1);
         let kind = random.below(10);
         if kind < mix.puts {
             let list = random.list(heap, mix.variables, mix.width)?;
-            put(rt, heap, db, &mut model, at, list.as_slice()).note(i)?;
+            put(rt, heap, db, &mut model, at, list.as_slice())?;
         } else if kind < 9 {
-            remove(rt, db, &mut model, at).note(i)?;
+            remove(rt, db, &mut model, at)?;
         } else {
-            ask(rt, db, &model, at).note(i)?;
+            ask(rt, db, &model, at)?;
         }
     }
     Ok(())

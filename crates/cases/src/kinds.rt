@@ -100,9 +100,7 @@ fn on_arena(
     let mut literal_memory = vec![in heap; -7i16; literals]?;
     let mut record_memory = vec![in heap; OLD; records]?;
     let mut arena = Arena::new(literal_memory.as_mut_slice(), record_memory.as_mut_slice());
-    drive(rt, heap, &mut arena, arena_limits(literals, records), calls).note(format_args!(
-        "{literals} literals, {records} records"
-    ))
+    drive(rt, heap, &mut arena, arena_limits(literals, records), calls)
 }
 
 // Carries out random calls on an arena over memories of these lengths.
@@ -116,9 +114,7 @@ fn random_on_arena(
     let mut literal_memory = vec![in heap; -7i16; literals]?;
     let mut record_memory = vec![in heap; OLD; records]?;
     let mut arena = Arena::new(literal_memory.as_mut_slice(), record_memory.as_mut_slice());
-    drive_random(rt, heap, &mut arena, arena_limits(literals, records), mix).note(format_args!(
-        "{literals} literals, {records} records"
-    ))
+    drive_random(rt, heap, &mut arena, arena_limits(literals, records), mix)
 }
 
 #[test]

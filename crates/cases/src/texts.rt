@@ -208,15 +208,21 @@ fn read<D: ClauseDatabase>(
 }
 
 // Reading a text onto a new database ends so.
-fn ends<D: ClauseDatabase>(rt: &impl Abort, db: &mut D, text: &[u8], end: End) -> Result<(), Fail> {
+fn ends<D: ClauseDatabase>(
+    rt: &impl Abort,
+    db: &mut D,
+    text: &[u8],
+    end: End,
+    what: &str,
+) -> Result<(), Fail> {
     let End(line, number, place, standing) = end;
     let expected = if number == 0 {
         None
     } else {
         Some((line, refusal(number, place)))
     };
-    assert_eq!(rt; read(rt, db, text)?, expected);
-    assert_eq!(rt; db.count(), standing);
+    assert_eq!(rt; read(rt, db, text)?, expected, "{}", what);
+    assert_eq!(rt; db.count(), standing, "{}", what);
     Ok(())
 }
 
@@ -283,8 +289,8 @@ fn faults_below_the_text(rt: HostRuntime) -> Result<(), Fail> {
             &mut Arena::new(&mut literals, &mut records),
             text.as_bytes(),
             *end,
-        )
-        .note(text)?;
+            text,
+        )?;
     }
     Ok(())
 }
@@ -292,14 +298,20 @@ fn faults_below_the_text(rt: HostRuntime) -> Result<(), Fail> {
 #[test]
 fn faults_of_the_database(rt: HostRuntime) -> Result<(), Fail> {
     for (text, end) in &MASKED {
-        ends(&rt, &mut Bitmask::new(), text.as_bytes(), *end).note(text)?;
+        ends(&rt, &mut Bitmask::new(), text.as_bytes(), *end, text)?;
     }
     Ok(())
 }
 
 // Reading this text onto a full-size arena ends so.
 fn long_ends(rt: &impl Abort, heap: Global, text: &[u8], end: End) -> Result<(), Fail> {
-    ends(rt, &mut Memory::new(heap)?.arena(), text, end)
+    ends(
+        rt,
+        &mut Memory::new(heap)?.arena(),
+        text,
+        end,
+        "a long text",
+    )
 }
 
 #[test]
@@ -334,7 +346,25 @@ fn refused_by_open(rt: HostRuntime) -> Result<(), Fail> {
         told(&rt, &mut db, &stack, b"p cnf 0 1\nx")?,
         Some((0, refusal(11, 0)))
     );
-    ends(&rt, &mut db, b"p cnf 0 1\n0", End(0, 0, 0, 1))?;
-    ends(&rt, &mut db, b"c\np cnf 0 1\nx", End(0, 10, 0, 1))?;
-    ends(&rt, &mut db, b"c\np cnf 513 1\nx", End(2, 22, 2, 1))
+    ends(
+        &rt,
+        &mut db,
+        b"p cnf 0 1\n0",
+        End(0, 0, 0, 1),
+        "one empty clause",
+    )?;
+    ends(
+        &rt,
+        &mut db,
+        b"c\np cnf 0 1\nx",
+        End(0, 10, 0, 1),
+        "a database that is not empty",
+    )?;
+    ends(
+        &rt,
+        &mut db,
+        b"c\np cnf 513 1\nx",
+        End(2, 22, 2, 1),
+        "a header that is refused",
+    )
 }

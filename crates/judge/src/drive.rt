@@ -194,12 +194,12 @@ pub fn run<D: ClauseDatabase>(
     };
     let mut loading = loading;
     same(rt, db, stack, &trial.judge, &mut trial.random)?;
-    for i in 0..plan.lists {
-        load_one(rt, &mut loading, db, stack, trial, plan).note(format_args!("list {i}"))?;
+    for _ in 0..plan.lists {
+        load_one(rt, &mut loading, db, stack, trial, plan)?;
     }
     let mut checking = seal(loading);
-    for i in 0..plan.lines {
-        step(rt, &mut checking, db, stack, trial).note(format_args!("line {i}"))?;
+    for _ in 0..plan.lines {
+        step(rt, &mut checking, db, stack, trial)?;
     }
     let (finished, counts) = checking.finish(db);
     trial.tally.count(What::Histories);

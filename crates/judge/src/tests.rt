@@ -167,12 +167,13 @@ const ARENA: [usize; 25] = [
 #[test]
 fn histories_on_arenas(rt: HostRuntime) -> Result<(), Fail> {
     let mut trial = trial(rt.alloc(), 0x9e37_79b9_7f4a_7c15);
-    for i in 0..HISTORIES {
+    for _ in 0..HISTORIES {
         let plan = some_plan(&mut trial.random);
-        on_arena(&rt, rt.alloc(), &mut trial, &plan).note(format_args!("history {i}"))?;
+        on_arena(&rt, rt.alloc(), &mut trial, &plan)?;
     }
     trial.tally.print(&rt)?;
-    trial.tally.holds(&ARENA)
+    trial.tally.holds(&rt, &ARENA);
+    Ok(())
 }
 
 // On a bitmask database 61 comes; 45, 64 and 81 can't, as 64 variables make no wider resolvent, and 256 clauses of them neither more
@@ -184,10 +185,11 @@ const BITMASK: [usize; 23] = [
 #[test]
 fn histories_on_bitmask_databases(rt: HostRuntime) -> Result<(), Fail> {
     let mut trial = trial(rt.alloc(), 0x2545_f491_4f6c_dd1d);
-    for i in 0..HISTORIES {
+    for _ in 0..HISTORIES {
         let plan = some_plan(&mut trial.random);
-        on_bitmask(&rt, rt.alloc(), &mut trial, &plan).note(format_args!("history {i}"))?;
+        on_bitmask(&rt, rt.alloc(), &mut trial, &plan)?;
     }
     trial.tally.print(&rt)?;
-    trial.tally.holds(&BITMASK)
+    trial.tally.holds(&rt, &BITMASK);
+    Ok(())
 }

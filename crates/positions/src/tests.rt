@@ -40,9 +40,10 @@ fn has_front(rt: &impl Abort, memory: &[u8], front: &[u8], filled: u8) {
     }
 }
 
-fn reads(rt: &impl Abort, text: &[u8], values: &[u8]) -> Result<(), Fail> {
+fn reads(rt: &impl Abort, read: &str, values: &[u8]) -> Result<(), Fail> {
+    let text = read.as_bytes();
     let mut wide = [9; 8];
-    assert_eq!(rt; read_position(text, &mut wide), values.len());
+    assert_eq!(rt; read_position(text, &mut wide), values.len(), "{}", read);
     has_front(rt, &wide, values, 9);
     let mut narrow = [9; 2];
     assert_eq!(rt; read_position(text, &mut narrow), values.len());
@@ -51,9 +52,15 @@ fn reads(rt: &impl Abort, text: &[u8], values: &[u8]) -> Result<(), Fail> {
     Ok(())
 }
 
-fn writes(rt: &impl Abort, values: &[u8], text: &[u8]) -> Result<(), Fail> {
+fn writes(rt: &impl Abort, values: &[u8], written: &str) -> Result<(), Fail> {
+    let text = written.as_bytes();
     let mut wide = [b'.'; 12];
-    assert_eq!(rt; write_position(values, &mut wide), text.len());
+    assert_eq!(rt;
+        write_position(values, &mut wide),
+        text.len(),
+        "{}",
+        written
+    );
     has_front(rt, &wide, text, b'.');
     let mut narrow = [b'.'; 3];
     assert_eq!(rt; write_position(values, &mut narrow), text.len());
@@ -65,7 +72,7 @@ fn writes(rt: &impl Abort, values: &[u8], text: &[u8]) -> Result<(), Fail> {
 #[test]
 fn texts_are_read(rt: HostRuntime) -> Result<(), Fail> {
     for (text, values) in &TEXTS {
-        reads(&rt, text.as_bytes(), values.as_bytes()).note(text)?;
+        reads(&rt, text, values.as_bytes())?;
     }
     Ok(())
 }
@@ -73,7 +80,7 @@ fn texts_are_read(rt: HostRuntime) -> Result<(), Fail> {
 #[test]
 fn positions_are_written(rt: HostRuntime) -> Result<(), Fail> {
     for (values, text) in &POSITIONS {
-        writes(&rt, values.as_bytes(), text.as_bytes()).note(text)?;
+        writes(&rt, values.as_bytes(), text)?;
     }
     Ok(())
 }

@@ -45,15 +45,20 @@ fn fault(file: File, line: usize) -> LocatedFault {
 }
 
 // Line and text go together, whichever of the two texts is named; the writer names none.
-fn named(rt: &impl Abort, text: &[u8], line: usize, expected: Option<&[u8]>) -> Result<(), Fail> {
+fn named(rt: &impl Abort, named: &str, line: usize, expected: Option<&[u8]>) -> Result<(), Fail> {
+    let text = named.as_bytes();
     let other = b"other\nother";
     assert_eq!(rt;
         faulty_line(text, other, &fault(File::Formula, line)),
-        expected
+        expected,
+        "{}",
+        named
     );
     assert_eq!(rt;
         faulty_line(other, text, &fault(File::Trace, line)),
-        expected
+        expected,
+        "{}",
+        named
     );
     assert_eq!(rt; faulty_line(text, text, &fault(File::Write, line)), None);
     Ok(())
@@ -66,7 +71,7 @@ fn faulty_lines(rt: HostRuntime) -> Result<(), Fail> {
             Some(found) => Some(found.as_bytes()),
             None => None,
         };
-        named(&rt, text.as_bytes(), *line, bytes).note(text)?;
+        named(&rt, text, *line, bytes)?;
     }
     Ok(())
 }

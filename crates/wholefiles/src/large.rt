@@ -242,7 +242,7 @@ fn is_refused(
 ) -> Result<(), Fail> {
     let trace = joined(heap, NAMES, lines, "")?;
     let printed = joined(heap, "file line refusal\n", row, "\n")?;
-    prints(rt, heap, formula, trace.as_slice(), printed.as_slice()).note(row)
+    prints(rt, heap, formula, trace.as_slice(), printed.as_slice(), row)
 }
 
 // The two files are accepted, and so much is printed.
@@ -252,11 +252,19 @@ fn is_accepted(
     formula: &[u8],
     lines: &str,
     rest: &[u8],
+    what: &str,
 ) -> Result<(), Fail> {
     let trace = joined(heap, NAMES, lines, "")?;
     let mut printed = joined(heap, "accepted standing empty\n", "", "")?;
     printed.extend_from_slice(rest)?;
-    prints(rt, heap, formula, trace.as_slice(), printed.as_slice())
+    prints(
+        rt,
+        heap,
+        formula,
+        trace.as_slice(),
+        printed.as_slice(),
+        what,
+    )
 }
 
 // So much is printed after so many clauses are saved.
@@ -280,8 +288,8 @@ fn is_saved(
         formula.as_slice(),
         trace.as_bytes(),
         printed.as_bytes(),
+        printed,
     )
-    .note(printed)
 }
 
 // Of each row: the two files are refused so.
@@ -306,7 +314,7 @@ fn files_accepted(
     for (start, part, times, end, lines, head, count, tail) in table {
         let formula = repeated(heap, start, part, *times, end)?;
         let rest = repeated(heap, head, part, *count, tail)?;
-        is_accepted(rt, heap, formula.as_slice(), lines, rest.as_slice()).note(head)?;
+        is_accepted(rt, heap, formula.as_slice(), lines, rest.as_slice(), head)?;
     }
     Ok(())
 }
@@ -355,6 +363,7 @@ fn traces(rt: HostRuntime) -> Result<(), Fail> {
         b"p cnf 0 0\n",
         most.as_slice(),
         b"accepted standing empty\n6550 0 0\np cnf 0 0\n",
+        "the longest trace",
     )?;
     let more = repeated(
         heap,
@@ -369,6 +378,7 @@ fn traces(rt: HostRuntime) -> Result<(), Fail> {
         b"p cnf 0 0\n",
         more.as_slice(),
         b"file line refusal\ntrace 0 20\n",
+        "a trace too long",
     )?;
     prints(
         &rt,
@@ -376,5 +386,6 @@ fn traces(rt: HostRuntime) -> Result<(), Fail> {
         b"p cnf 0 1\n",
         more.as_slice(),
         b"file line refusal\nformula 1 26\n",
+        "a fault of the formula comes first",
     )
 }

@@ -69,15 +69,16 @@ fn printout(heap: Global, formula: &[u8], trace: &[u8]) -> Result<Vec<u8>, Alloc
     }
 }
 
-// The program prints exactly these bytes.
+// The program prints exactly these bytes; where it does not, it is told of what.
 pub fn prints(
     rt: &impl Abort,
     heap: Global,
     formula: &[u8],
     trace: &[u8],
     expected: &[u8],
+    what: &str,
 ) -> Result<(), Fail> {
     let text = printout(heap, formula, trace)?;
-    assert_eq!(rt; text.as_slice(), expected);
+    assert_eq!(rt; text.as_slice(), expected, "{}", what);
     Ok(())
 }

@@ -26,15 +26,23 @@ fn refuses(
     formula: &str,
     trace: &[u8],
     row: &str,
+    what: &str,
 ) -> Result<(), Fail> {
     let expected = joined(heap, "file line refusal\n", row, "\n")?;
-    prints(rt, heap, formula.as_bytes(), trace, expected.as_slice())
+    prints(
+        rt,
+        heap,
+        formula.as_bytes(),
+        trace,
+        expected.as_slice(),
+        what,
+    )
 }
 
 // Of each row: the formula is refused so.
 pub fn formulas_refused(rt: &impl Abort, heap: Global, table: &[(&str, &str)]) -> Result<(), Fail> {
     for (formula, row) in table {
-        refuses(rt, heap, formula, NAMES.as_bytes(), row).note(formula)?;
+        refuses(rt, heap, formula, NAMES.as_bytes(), row, formula)?;
     }
     Ok(())
 }
@@ -42,7 +50,7 @@ pub fn formulas_refused(rt: &impl Abort, heap: Global, table: &[(&str, &str)]) -
 // Of each row: below the listing, the trace is refused so.
 pub fn traces_refused(rt: &impl Abort, heap: Global, table: &[(&str, &str)]) -> Result<(), Fail> {
     for (trace, row) in table {
-        refuses(rt, heap, LISTING, trace.as_bytes(), row).note(trace)?;
+        refuses(rt, heap, LISTING, trace.as_bytes(), row, trace)?;
     }
     Ok(())
 }
@@ -51,7 +59,7 @@ pub fn traces_refused(rt: &impl Abort, heap: Global, table: &[(&str, &str)]) -> 
 pub fn lines_refused(rt: &impl Abort, heap: Global, table: &[(&str, &str)]) -> Result<(), Fail> {
     for (lines, row) in table {
         let trace = joined(heap, NAMES, lines, "")?;
-        refuses(rt, heap, LISTING, trace.as_slice(), row).note(lines)?;
+        refuses(rt, heap, LISTING, trace.as_slice(), row, lines)?;
     }
     Ok(())
 }
@@ -64,7 +72,7 @@ pub fn files_refused(
 ) -> Result<(), Fail> {
     for (formula, lines, row) in table {
         let trace = joined(heap, NAMES, lines, "")?;
-        refuses(rt, heap, formula, trace.as_slice(), row).note(formula)?;
+        refuses(rt, heap, formula, trace.as_slice(), row, formula)?;
     }
     Ok(())
 }
@@ -86,8 +94,8 @@ pub fn files_accepted(
             formula.as_bytes(),
             trace.as_slice(),
             expected.as_slice(),
-        )
-        .note(formula)?;
+            formula,
+        )?;
     }
     Ok(())
 }
