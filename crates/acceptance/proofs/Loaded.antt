@@ -1,12 +1,12 @@
 -- Lists and assignments: no fault exactly when they should be accepted; and the space of database and reconstruction stack.
-use Rattle.std.proofs.Common.{◌≡◌, ℕ, ◌+◌, ◌<◌, ◌≤◌, true, false, not, eqb, ltb, leb, ◌⊎◌, List, [], ◌∷◌, length, ℤ, nat_abs, Some, None, sym, refl, ap, ◌∙◌, inl, inr, ⊎_elim, arith}
+use Rattle.std.proofs.Common.{◌≡◌, ℕ, ◌+◌, ◌<◌, ◌≤◌, true, false, not, eqb, ltb, leb, List, [], ◌∷◌, length, ℤ, nat_abs, Some, None, sym, refl, ap, ◌∙◌, inl, inr, ⊎_elim, arith}
 use Rattle.std.proofs.lemmas.Bool.{cases_Bool, cases_lt, true≢false, false≢true, cond-true, cond-false, or_right, and_parts, and_from, leb-true, le-leb, ltb-true, lt-ltb, le-ltb}
 use Rattle.std.proofs.lemmas.Bool.Decides.{nat_tests}
 use Rattle.words.specs.declared.limits.Limits.{Limits}
 use Rattle.words.specs.declared.fault.SessionFault.TheVariants.{LoadedFull, LiteralBeyond, TooManyLiterals, AssignmentLength, AssignmentByte, Unmet, Database}
 use Rattle.words.specs.declared.fault.DatabaseFault.TheVariants.{NumberTaken, VariableBeyond, TooWide, ClausesFull, LiteralsFull}
 use Rattle.words.specs.Assignments.{all_bits, met, all_met}
-use Rattle.words.specs.Checks.{◌then◌, inside}
+use Rattle.words.specs.Checks.{inside}
 use Rattle.words.specs.Clauses.{has, opposed, within, insert, gathered, too_many_at}
 use Rattle.words.specs.Literals.{same, literal_ok}
 use Rattle.words.specs.Standing.{Entry, stands, clauses, literals, put_fault}

@@ -5,7 +5,6 @@ use Rattle.words.specs.declared.fault.FileFault.TheVariants.{Session}
 use Rattle.words.specs.declared.fault.LocatedFault.{LocatedFault}
 use Rattle.words.specs.declared.fault.SessionFault.{SessionFault}
 use Rattle.words.specs.Checks.{unless}
-use Rattle.words.specs.Standing.{Entry}
 use Rattle.rules.specs.Restoring.{restore_fault}
 use Rattle.session.specs.declared.Finished.{Finished}
 use Rattle.session.specs.Meanings.{finished_variables}

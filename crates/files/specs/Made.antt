@@ -1,5 +1,5 @@
 -- The history that a formula and a trace make: reading a file counts as the calls that it makes.
-use Rattle.std.specs.Prelude.{◌≡◌, ℕ, List, length, Some, None, Option}
+use Rattle.std.specs.Prelude.{ℕ, List, length, Option}
 use Rattle.std.specs.Option.{option_map}
 use Rattle.words.specs.declared.fault.LocatedFault.{LocatedFault}
 use Rattle.words.specs.declared.limits.Limits.{Limits}

@@ -1,6 +1,6 @@
 -- What a formula and a trace come to: the formula is read, the session sealed, the trace read, the session finished and the reduced
 -- formula written, up to the first refusal.
-use Rattle.std.specs.Prelude.{ℕ, List, Some, None, Option}
+use Rattle.std.specs.Prelude.{ℕ, List, Option}
 use Rattle.words.specs.declared.fault.File.TheVariants.{Write}
 use Rattle.words.specs.declared.fault.FileFault.TheVariants.{Session}
 use Rattle.words.specs.declared.fault.LocatedFault.{LocatedFault}

@@ -1,8 +1,7 @@
 -- Checks in order, followed one by one, and what a read clause tells of its number.
-use Rattle.std.proofs.Common.{◌≡◌, ℕ, Bool, true, false, not, List, [], ◌∷◌, ℤ, Some, None, Option, sym, refl, ap, ◌∙◌, arith}
-use Rattle.std.proofs.lemmas.Bool.{cases_Bool}
+use Rattle.std.proofs.Common.{◌≡◌, ℕ, Bool, true, false, List, ℤ, Some, None, Option, sym, ap, arith}
 use Rattle.std.proofs.lemmas.Bool.Decides.{nat_tests}
-use Rattle.words.specs.Checks.{check, ◌then◌, inside}
+use Rattle.words.specs.Checks.{check, ◌then◌}
 use Rattle.words.specs.Standing.{Entry, stands, under}
 use Rattle.rules.specs.Lines.{clause_under}
 use Rattle.acceptance.proofs.Entries.{stands_under, absent_under, clause_under_is}

@@ -1,11 +1,10 @@
 -- The rules of S and B followed check by check.
-use Rattle.std.proofs.Common.{◌≡◌, ℕ, ◌<◌, ◌≤◌, Bool, true, false, cond, not, ◌&&◌, eqb, ltb, leb, List, [], ◌∷◌, ℤ, neg_ℤ, Some, None, Option, sym, refl, ap, ◌∙◌, ⊎_elim, arith}
-use Rattle.std.proofs.lemmas.Bool.{cases_Bool, cases_eq}
+use Rattle.std.proofs.Common.{◌≡◌, ℕ, ◌<◌, Bool, true, false, cond, not, ◌&&◌, eqb, List, ℤ, neg_ℤ, Some, None, Option, sym, ap, ◌∙◌, ⊎_elim, arith}
+use Rattle.std.proofs.lemmas.Bool.{cases_eq}
 use Rattle.std.proofs.lemmas.Bool.Decides.{nat_tests}
-use Rattle.words.specs.declared.fault.SessionFault.{SessionFault}
 use Rattle.words.specs.declared.fault.SessionFault.TheVariants.{Missing, Lacking, NotSubsumed, NotBlocked}
 use Rattle.words.specs.declared.fault.DatabaseFault.{DatabaseFault}
-use Rattle.words.specs.Checks.{check, ◌then◌, inside, unless}
+use Rattle.words.specs.Checks.{check, inside, unless}
 use Rattle.words.specs.Clauses.{has, subset, opposed, resolvent}
 use Rattle.words.specs.Standing.{Entry, stands, under, without, ordered, next_above}
 use Rattle.rules.specs.Lines.{clause_under, subsumed_fault, blocked_fault, first_unblocked}

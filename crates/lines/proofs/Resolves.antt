@@ -1,14 +1,12 @@
 -- The rule of R followed check by check.
-use Rattle.std.proofs.Common.{◌≡◌, ℕ, ◌<◌, ◌≤◌, Bool, true, false, cond, not, ltb, leb, List, [], ◌∷◌, length, ℤ, neg_ℤ, Some, None, Option, sym, refl, ap, ◌∙◌, arith}
-use Rattle.std.proofs.lemmas.Bool.{cases_Bool}
+use Rattle.std.proofs.Common.{◌≡◌, ℕ, ◌<◌, Bool, true, false, cond, not, ltb, leb, List, length, ℤ, neg_ℤ, Some, None, Option, sym, refl, ap, ◌∙◌, arith}
 use Rattle.std.proofs.lemmas.Bool.Decides.{nat_tests}
-use Rattle.words.specs.declared.fault.SessionFault.{SessionFault}
-use Rattle.words.specs.declared.fault.SessionFault.TheVariants.{NumberNotAbove, Missing, Lacking, Tautology, ResolventTooWide}
+use Rattle.words.specs.declared.fault.SessionFault.TheVariants.{Missing, Lacking, Tautology, ResolventTooWide}
 use Rattle.words.specs.Clauses.{has, opposed, resolvent}
 use Rattle.words.specs.Standing.{Entry, stands, under}
 use Rattle.rules.specs.Lines.{clause_under, line_resolvent, resolve_fault}
 use Rattle.lines.specs.Judging.{r_line}
-use Rattle.lines.proofs.Faults.{on, off, last_on, last_off, missing, there, read_is}
+use Rattle.lines.proofs.Faults.{on, off, missing, there, read_is}
 
 -- what a clause that is there, or not, tells of its width
 narrow_none : (b : Bool) (r : List ℤ) → ◌≡◌ {A = Option (List ℤ)} None (cond b (Some r) None) → b ≡ false

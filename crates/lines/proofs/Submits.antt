@@ -1,11 +1,10 @@
 -- A whole line followed: the marks, the fields, and the step that they name.
-use Rattle.std.proofs.Common.{◌≡◌, ℕ, suc, Bool, true, false, ◌&&◌, eqb, List, [], ◌∷◌, length, replicate, Some, None, Option, sym, refl, ap, ◌∙◌, arith}
-use Rattle.std.proofs.lemmas.Bool.Decides.{nat_tests}
+use Rattle.std.proofs.Common.{◌≡◌, ℕ, true, List, Some, None, Option, sym, ap, ◌∙◌}
 use Rattle.words.specs.declared.limits.Limits.{Limits}
 use Rattle.words.specs.declared.line.Line.{Line}
 use Rattle.words.specs.declared.fault.SessionFault.{SessionFault}
 use Rattle.words.specs.declared.fault.SessionFault.TheVariants.{MarksDirty}
-use Rattle.words.specs.Checks.{check, ◌then◌}
+use Rattle.words.specs.Checks.{◌then◌}
 use Rattle.words.specs.Standing.{Entry}
 use Rattle.rules.specs.Restoring.{Saved, Room}
 use Rattle.rules.specs.Lines.{field_fault, rule_fault, space_fault, line_fault}

@@ -1,5 +1,5 @@
 -- A line as it is sent: the marks, the fields, the rule and the space.
-use Rattle.std.specs.Prelude.{◌≡◌, ℕ, List, ℤ, Some, None, Ok, Err, Option, Result}
+use Rattle.std.specs.Prelude.{◌≡◌, ℕ, List, Some, None, Ok, Err, Option, Result}
 use Rattle.words.specs.declared.limits.Limits.{Limits}
 use Rattle.words.specs.declared.line.Line.{Line}
 use Rattle.words.specs.declared.fault.SessionFault.{SessionFault}

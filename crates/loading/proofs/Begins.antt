@@ -1,5 +1,5 @@
 -- The history that opening begins.
-use Rattle.std.proofs.Common.{◌≡◌, ℕ, List, IfOk, Ok, Err, Result, sym, refl, ap, ◌∙◌, subst}
+use Rattle.std.proofs.Common.{◌≡◌, ℕ, List, IfOk, Ok, Err, Result, sym, subst}
 use Rattle.words.specs.declared.limits.Limits.{Limits}
 use Rattle.words.specs.declared.fault.SessionFault.{SessionFault}
 use Rattle.words.specs.Checks.{fault_of}

@@ -1,5 +1,5 @@
 -- An opposite pair in a resolvent is a literal of one parent whose negation is in the other.
-use Rattle.std.proofs.Common.{◌≡◌, ℕ, ◌+◌, ◌<◌, ◌≤◌, Bool, true, false, cond, not, ◌&&◌, ◌||◌, eqb, ltb, leb, ◌⊎◌, List, [], ◌∷◌, ℤ, pos, neg_ℤ, nat_abs, sym, refl, ap, ◌∙◌, inl, inr, ⊎_elim, arith}
+use Rattle.std.proofs.Common.{◌≡◌, ℕ, ◌<◌, ◌≤◌, Bool, true, false, not, ◌&&◌, ◌||◌, List, [], ◌∷◌, ℤ, neg_ℤ, nat_abs, sym, refl, ap, ◌∙◌, inl, inr, ⊎_elim, arith}
 use lib.IntN.{neg_ℤ-neg_ℤ}
 use Rattle.std.proofs.lemmas.Bool.{cases_Bool, true≢false}
 use Rattle.std.proofs.lemmas.Bool.Decides.{nat_tests}
@@ -7,9 +7,8 @@ use Rattle.words.specs.Literals.{same}
 use Rattle.words.specs.Clauses.{has, rising, subset, opposed, resolvent}
 use Rattle.words.specs.Marks.{mark_place, Marked}
 use Rattle.words.proofs.Marks.{mark_tells}
-use Rattle.rules.specs.Satisfying.{Iff}
-use Rattle.rules.specs.Obeying.{In, InResolvent, Tautological}
-use Rattle.acceptance.proofs.Sets.{same_eq, same_ne, same_is, same_refl, same_tests, abs_neg, has_first}
+use Rattle.rules.specs.Obeying.{In}
+use Rattle.acceptance.proofs.Sets.{same_eq, same_ne, same_is, same_tests, abs_neg, has_first}
 use Rattle.acceptance.proofs.Rising.{rising_plain, opposed_tautological}
 use Rattle.marking.specs.Marking.{marked, marks_clash, marks_cover, clashes}
 

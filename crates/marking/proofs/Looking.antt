@@ -1,10 +1,8 @@
 -- Looking at bytes and at the literals of a clause one after another.
-use Rattle.std.proofs.Common.{◌≡◌, ℕ, zero, suc, ◌+◌, ◌<◌, ◌≤◌, Bool, true, false, cond, not, ◌&&◌, ◌||◌, eqb, ltb, leb, List, [], ◌∷◌, ◌++◌, length, get_or, drop, set, replicate, ℤ, pos, neg_ℤ, nat_abs, sym, refl, ap, ◌∙◌, subst, ⊎_elim, arith}
+use Rattle.std.proofs.Common.{◌≡◌, ℕ, zero, suc, ◌+◌, ◌<◌, ◌≤◌, true, false, List, [], ◌∷◌, ◌++◌, length, get_or, drop, set, replicate, ℤ, pos, neg_ℤ, nat_abs, sym, refl, ap, ◌∙◌, subst, arith}
 use Rattle.std.proofs.lemmas.List.{drop_more, drop_all, get_or_past, length-set, set_past, append_assoc, append-nil}
-use Rattle.std.proofs.lemmas.Bool.{cases_Bool}
 use Rattle.std.proofs.lemmas.Bool.Decides.{nat_tests}
-use Rattle.words.specs.Literals.{same}
-use Rattle.words.specs.Clauses.{has, rising, subset}
+use Rattle.words.specs.Clauses.{rising}
 use Rattle.words.specs.Marks.{mark_place, Marked}
 use Rattle.words.proofs.Marks.{marked_none, marked_more}
 use Rattle.acceptance.proofs.Sets.{same_eq, same_ne}

@@ -1,12 +1,11 @@
 -- Literals put into a clause one after another, and the resolvent as two such unions.
-use Rattle.std.proofs.Common.{◌≡◌, ℕ, ◌+◌, ◌<◌, ◌≤◌, Bool, true, false, cond, not, ◌&&◌, ◌||◌, eqb, ltb, leb, ◌⊎◌, List, [], ◌∷◌, length, get_or, drop, ℤ, pos, neg_ℤ, nat_abs, Some, None, Option, sym, refl, ap, ◌∙◌, subst, inl, inr, ⊎_elim, arith}
-use Rattle.std.proofs.lemmas.List.{drop_more, drop_all}
+use Rattle.std.proofs.Common.{◌≡◌, ℕ, ◌+◌, ◌<◌, ◌≤◌, true, false, cond, not, ◌&&◌, ◌||◌, ltb, leb, List, [], ◌∷◌, length, ℤ, neg_ℤ, nat_abs, Some, None, Option, sym, refl, ap, ◌∙◌, subst, ⊎_elim, arith}
 use Rattle.std.proofs.lemmas.Bool.{cases_Bool, true≢false}
 use Rattle.std.proofs.lemmas.Bool.Decides.{nat_tests}
 use Rattle.words.specs.Literals.{same}
 use Rattle.words.specs.Clauses.{has, rising, insert, opposed, resolvent}
 use Rattle.words.proofs.Inserts.{rising_insert}
-use Rattle.acceptance.proofs.Sets.{Plain, same_eq, same_ne, same_is, same_refl, cases_same, has_insert, has_resolvent_is, opposed_some, opposed_plain, resolvent_nonzero}
+use Rattle.acceptance.proofs.Sets.{Plain, same_eq, same_ne, same_refl, cases_same, has_insert, has_resolvent_is, opposed_some, opposed_plain, resolvent_nonzero}
 use Rattle.acceptance.proofs.Rising.{rising_nonzero, rising_plain, rising_unique, resolvent_canonical}
 use Rattle.marking.specs.Resolving.{added, clause_resolvent}
 

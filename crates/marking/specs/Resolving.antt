@@ -1,5 +1,5 @@
 -- The literals of a clause but one, put into another clause one after another; the resolvent of two clauses as a clause.
-use Rattle.std.specs.Prelude.{◌≡◌, ℕ, ◌<◌, Bool, true, false, cond, List, [], ◌∷◌, length, ℤ, Some, None, Option, nat_le}
+use Rattle.std.specs.Prelude.{◌≡◌, ◌<◌, Bool, true, false, cond, List, [], ◌∷◌, length, ℤ, Some, None, Option, nat_le}
 use Rattle.words.specs.Literals.{same}
 use Rattle.words.specs.Clauses.{insert, opposed, resolvent}
 use Rattle.acceptance.proofs.Sets.{Plain}

@@ -9,7 +9,7 @@ use Rattle.words.specs.Checks.{check, ◌then◌, inside, unless}
 use Rattle.words.specs.Standing.{Entry}
 use Rattle.rules.specs.Restoring.{Saved, Room}
 use Rattle.rules.specs.Loading.{open_fault, load_fault, load_adds}
-use Rattle.rules.specs.Histories.{History, opened, after, load, variables_of, loaded, standing_by}
+use Rattle.rules.specs.Histories.{History, opened, after, load, variables_of, loaded}
 use Rattle.acceptance.proofs.Passing.{none_not_some}
 use Rattle.theory.specs.Leading.{Leads, ToLoading}
 use Rattle.theory.proofs.Led.{opened_leads, load_leads}

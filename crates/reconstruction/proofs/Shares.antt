@@ -2,7 +2,7 @@
 use Rattle.std.proofs.Common.{◌≡◌, ℕ, ◌+◌, ◌<◌, ◌≤◌, cond, ltb, List, [], ◌∷◌, ◌++◌, length, get_or, take, drop, ℤ, pos, None, sym, refl, ap, ◌∙◌, arith}
 use Rattle.std.proofs.lemmas.List.{length-take-le, length-drop, length-map, length-append, map_push, take_more, append_assoc, nil_from_length, take_all, take-append-le, drop-append-le}
 use Rattle.std.proofs.lemmas.Bool.{lt-ltb}
-use Rattle.rules.specs.Restoring.{Saved, Room, saved_literals, save_fault}
+use Rattle.rules.specs.Restoring.{Room, saved_literals, save_fault}
 use Rattle.reconstruction.specs.declared.saved.SavedEntry.{SavedEntry}
 use Rattle.reconstruction.specs.declared.saved.SavedLiteral.{SavedLiteral}
 use Rattle.reconstruction.specs.Stacks.{total}

@@ -1,5 +1,5 @@
 -- What is told of a fault: a row for programs, and an explanation for people.
-use Rattle.std.specs.Prelude.{ℕ, cond, List, [], ◌∷◌, ◌++◌, length, take, Some, None, codes, decimal, Option, ◌==◌, nat_le}
+use Rattle.std.specs.Prelude.{ℕ, cond, List, [], ◌++◌, length, take, Some, None, codes, decimal, Option, ◌==◌, nat_le}
 use Rattle.words.specs.declared.fault.DatabaseFault.{DatabaseFault}
 use Rattle.words.specs.declared.fault.DatabaseFault.TheVariants as database
 use Rattle.words.specs.declared.fault.SessionFault.{SessionFault}

@@ -1,6 +1,6 @@
 -- Each call takes a history on: where the history before it led to the state at its start, the history with the call and
 -- its answer leads to the state at its end.
-use Rattle.std.proofs.Common.{◌≡◌, ℕ, ◌+◌, ◌≤◌, Bool, true, cond, eqb, leb, List, [], ◌∷◌, ◌++◌, length, ℤ, Some, None, Option, sym, refl, ap, ◌∙◌, subst, arith}
+use Rattle.std.proofs.Common.{◌≡◌, ℕ, ◌+◌, ◌≤◌, true, eqb, leb, List, [], ◌∷◌, ◌++◌, length, ℤ, Some, None, Option, sym, refl, ap, ◌∙◌, subst, arith}
 use Rattle.std.proofs.lemmas.Bool.Decides.{nat_tests}
 use Rattle.words.specs.declared.limits.Limits.{Limits}
 use Rattle.words.specs.declared.line.Line.{Line}
@@ -11,10 +11,10 @@ use Rattle.words.specs.Standing.{Entry}
 use Rattle.rules.specs.Restoring.{Saved, Room, restored, restore_fault}
 use Rattle.rules.specs.Loading.{open_fault, load_fault, load_adds}
 use Rattle.rules.specs.Lines.{line_fault, line_leaves, line_saves, line_gives, one_more}
-use Rattle.rules.specs.Histories.{History, opened, after, load, seal, submit, finish, restore, write, variables_of, loaded, standing_by, saved_by, given_by, accepted_by}
-use Rattle.rules.specs.Runs.{Run, Answered, empty_stands}
+use Rattle.rules.specs.Histories.{History, opened, after, load, seal, submit, finish, restore, write, variables_of, loaded, standing_by, saved_by, given_by}
+use Rattle.rules.specs.Runs.{Run, empty_stands}
 use Rattle.acceptance.proofs.Passing.{passed, check_passed}
-use Rattle.theory.specs.Leading.{Leads, ToLoading, ToChecking, ToFinished}
+use Rattle.theory.specs.Leading.{ToLoading, ToChecking, ToFinished}
 use Rattle.theory.proofs.Keeping.{law_of_histories}
 
 -- a list without elements

@@ -8,7 +8,7 @@ use Rattle.words.specs.declared.line.Line.{Line}
 use Rattle.words.specs.Checks.{unless, inside}
 use Rattle.rules.specs.Restoring.{Room}
 use Rattle.rules.specs.Lines.{line_fault}
-use Rattle.rules.specs.Histories.{History, after, submit, standing_by, saved_by, given_by}
+use Rattle.rules.specs.Histories.{History, after, submit, standing_by, given_by}
 use Rattle.theory.specs.Leading.{ToChecking}
 use Rattle.theory.proofs.Led.{submit_leads}
 use Rattle.marking.specs.Marking.{clean_marks}
@@ -16,7 +16,7 @@ use Rattle.lines.specs.Submitting.{submit_fault}
 use Rattle.lines.proofs.Submits.{line_judged}
 use Rattle.reader.specs.Headers.{begins}
 use Rattle.textlines.specs.Lines.{TextLine, text_lines}
-use Rattle.trace.specs.Traces.{Progress, TraceOutcome, names, proof_line, sent, sent_fault, stopped, read_lines, read_trace}
+use Rattle.trace.specs.Traces.{Progress, names, proof_line, sent, sent_fault, stopped, read_lines, read_trace}
 use Rattle.trace.specs.Sent.{answer, with_lines, with_trace}
 
 module _ (marks : List ℕ) (l : Limits) (room : Room) (v : ℕ) (clean : clean_marks marks ≡ true) where

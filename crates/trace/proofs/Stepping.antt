@@ -1,15 +1,15 @@
 -- Reading a trace line after line.
-use Rattle.std.proofs.Common.{◌≡◌, ℕ, ◌+◌, ◌-◌, ◌<◌, ◌≤◌, true, false, List, [], ◌∷◌, ◌++◌, length, take, drop, Some, None, Ok, Err, Option, Result, sym, refl, ap, ◌∙◌, subst, arith}
+use Rattle.std.proofs.Common.{◌≡◌, ℕ, ◌+◌, ◌-◌, ◌<◌, ◌≤◌, true, List, [], ◌∷◌, length, take, drop, Some, None, Ok, Err, Result, sym, refl, ap, ◌∙◌, subst, arith}
 use Rattle.std.proofs.lemmas.List.{at_drop_all, drop-drop, length-drop, take_rest}
 use Rattle.words.specs.declared.fault.FileFault.{FileFault}
 use Rattle.words.specs.declared.fault.FileFault.TheVariants.{NotFiveValues}
 use Rattle.words.specs.declared.limits.Limits.{Limits}
 use Rattle.words.specs.Checks.{unless}
 use Rattle.rules.specs.Restoring.{Room}
-use Rattle.textlines.specs.Lines.{TextLine, last_of, text_lines, first_end}
+use Rattle.textlines.specs.Lines.{last_of, text_lines, first_end}
 use Rattle.textlines.proofs.Lines.{text_lines_ended, text_lines_unended}
 use Rattle.trace.specs.Values.{parsed}
-use Rattle.trace.specs.Traces.{Progress, TraceOutcome, proof_line, sent, sent_fault, stopped, read_lines}
+use Rattle.trace.specs.Traces.{Progress, TraceOutcome, sent, sent_fault, stopped, read_lines}
 use Rattle.trace.specs.Sessions.{Stepped}
 
 -- several lines, the first of which ends: it is read, or refused

@@ -1,6 +1,5 @@
 -- The history that a trace makes: reading it counts as the lines that it submits.
-use Rattle.std.specs.Prelude.{ℕ, cond, ◌&&◌, List, [], ◌∷◌, length, drop, Some, None, Ok, Err, Option, Result, nat_le}
-use Rattle.words.specs.declared.fault.FileFault.{FileFault}
+use Rattle.std.specs.Prelude.{ℕ, cond, ◌&&◌, List, [], ◌∷◌, length, drop, None, Ok, Err, Option, nat_le}
 use Rattle.words.specs.declared.fault.SessionFault.{SessionFault}
 use Rattle.words.specs.declared.limits.Limits.{Limits}
 use Rattle.words.specs.declared.line.Line.{Line}

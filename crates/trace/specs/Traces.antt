@@ -1,5 +1,5 @@
 -- Reading a trace into a checking session.
-use Rattle.std.specs.Prelude.{ℕ, ◌+◌, Bool, true, false, cond, List, [], ◌∷◌, ◌++◌, length, drop, Some, None, Ok, Err, codes, Option, Result, nat_le}
+use Rattle.std.specs.Prelude.{ℕ, ◌+◌, cond, List, [], ◌∷◌, ◌++◌, length, drop, Some, None, Ok, Err, codes, Option, Result, nat_le}
 use Rattle.words.specs.declared.fault.File.TheVariants.{Trace}
 use Rattle.words.specs.declared.fault.FileFault.{FileFault}
 use Rattle.words.specs.declared.fault.FileFault.TheVariants.{TooManyBytes, NamesWrong, NotFiveValues, Session}

@@ -1,4 +1,4 @@
-use Rattle.std.proofs.Common.{◌≡◌, sym, refl, ap, ◌∙◌, arith, rules}
+use Rattle.std.proofs.Common.{ap, arith}
 use Rattle.words.specs.Meanings.{lits_of}
 use Rattle.rules.specs.Lines.{first_unblocked}
 use Rattle.database.proofs.Walks.{above_start}

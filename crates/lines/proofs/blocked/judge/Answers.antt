@@ -1,5 +1,4 @@
-use Rattle.std.proofs.Common.{◌≡◌, length, replicate, sym, refl, ap, ◌∙◌, arith, rules}
-use Rattle.words.specs.Meanings.{lits_of}
+use Rattle.std.proofs.Common.{◌≡◌, length, replicate, ap, ◌∙◌, rules}
 use Rattle.lines.proofs.Judges.{b_missing, b_lacking, b_unblocked, b_passes}
 use Rattle.lines.proofs.blocked.judge.Goals as goal
 

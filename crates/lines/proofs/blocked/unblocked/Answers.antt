@@ -1,4 +1,3 @@
-use Rattle.std.proofs.Common.{rules}
 use Rattle.words.specs.Meanings.{lits_of}
 use Rattle.marking.proofs.Clashes.{clash_tells}
 use Rattle.lines.proofs.Judges.{unblocked_is}

@@ -1,8 +1,7 @@
-use Rattle.std.proofs.Common.{◌≡◌, true, ◌++◌, replicate, sym, refl, ap, ◌∙◌, rules}
+use Rattle.std.proofs.Common.{◌++◌, sym, refl, ap, ◌∙◌}
 use Rattle.words.specs.Checks.{fault_of, unless}
 use Rattle.rules.specs.Lines.{line_leaves, line_saves}
 use Rattle.reconstruction.specs.Meanings.{saved, room_of}
-use Rattle.marking.specs.Marking.{clean_marks}
 use Rattle.marking.proofs.Looking.{clean_zeros}
 use Rattle.lines.proofs.Submits.{field_refused, step_judged}
 use Rattle.lines.proofs.carry.carry_out.Goals as goal

@@ -1,4 +1,4 @@
-use Rattle.std.proofs.Common.{◌≡◌, ◌<◌, length, replicate, sym, refl, ap, ◌∙◌, arith, rules}
+use Rattle.std.proofs.Common.{◌≡◌, length, replicate, ap, ◌∙◌, arith, rules}
 use Rattle.words.specs.Meanings.{lits_of}
 use Rattle.marking.proofs.Clashes.{clash_tells}
 use Rattle.marking.proofs.Unions.{unopposed}

@@ -1,4 +1,4 @@
-use Rattle.std.proofs.Common.{◌≡◌, length, replicate, sym, refl, ap, ◌∙◌, arith, rules}
+use Rattle.std.proofs.Common.{◌≡◌, length, replicate, ap, ◌∙◌, rules}
 use Rattle.words.specs.Meanings.{lits_of}
 use Rattle.marking.proofs.Clashes.{marks_cover_is}
 use Rattle.lines.proofs.Judges.{s_clause_missing, s_first_missing, s_same, s_not_in, s_passes}

@@ -1,7 +1,7 @@
-use Rattle.std.proofs.Common.{◌≡◌, ◌+◌, ◌∷◌, get_or, drop, ℤ, pos, sym, refl, ap, ◌∙◌, w16, SFits, rules}
+use Rattle.std.proofs.Common.{◌≡◌, ◌+◌, get_or, drop, pos, sym, refl, ap, ◌∙◌, w16, SFits, rules}
 use Rattle.std.proofs.lemmas.List.{drop_all}
 use Rattle.std.proofs.lemmas.Int.{to_z-of_z}
-use Rattle.words.specs.Clauses.{rising, insert}
+use Rattle.words.specs.Clauses.{rising}
 use Rattle.words.specs.Meanings.{lits_of}
 use Rattle.acceptance.proofs.Sets.{Plain}
 use Rattle.marking.specs.Resolving.{added}

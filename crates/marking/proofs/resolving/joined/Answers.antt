@@ -1,4 +1,4 @@
-use Rattle.std.proofs.Common.{◌≡◌, ◌≤◌, length, refl, arith, rules}
+use Rattle.std.proofs.Common.{◌≤◌, length, refl, arith}
 use Rattle.std.proofs.lemmas.List.{length-take}
 use Rattle.words.specs.Meanings.{lits_of}
 use Rattle.marking.proofs.Unions.{first_refused, second_refused, both_built}

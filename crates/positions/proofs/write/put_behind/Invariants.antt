@@ -1,4 +1,4 @@
-use Rattle.std.proofs.Common.{◌≡◌, ◌+◌, ◌*◌, length, drop}
+use Rattle.std.proofs.Common.{◌≡◌, ◌+◌, ◌*◌, drop}
 use lib.Seq.{sets}
 use Rattle.positions.specs.Values.{text_behind}
 use Rattle.positions.proofs.write.put_behind.Given as goal

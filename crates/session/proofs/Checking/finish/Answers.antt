@@ -1,4 +1,4 @@
-use Rattle.std.proofs.Common.{◌≡◌, sym, subst}
+use Rattle.std.proofs.Common.{sym, subst}
 use Rattle.rules.specs.Histories.{after, finish}
 use Rattle.theory.specs.Leading.{ToFinished}
 use Rattle.theory.proofs.Led.{finish_leads}

@@ -1,4 +1,4 @@
-use Rattle.std.proofs.Common.{◌≡◌, sym, ap, ◌∙◌}
+use Rattle.std.proofs.Common.{◌∙◌}
 use Rattle.rules.specs.Histories.{after, submit}
 use Rattle.words.specs.Checks.{fault_of}
 use Rattle.reconstruction.specs.Meanings.{saved, room_of}

@@ -1,5 +1,4 @@
-use Rattle.std.proofs.Common.{◌≡◌, eqb, [], length, sym, refl, ap, ◌∙◌, arith, rules}
-use Rattle.words.specs.Meanings.{lits_of}
+use Rattle.std.proofs.Common.{eqb, [], length, ap, ◌∙◌, arith}
 use Rattle.rules.specs.Lines.{some_equal}
 use Rattle.database.proofs.Walks.{above_start}
 use Rattle.session.proofs.Empties.{rises, read_there, empty_found, empty_passed, empty_nowhere}

@@ -1,7 +1,6 @@
-use Rattle.std.proofs.Common.{Some, sym, ap, ◌∙◌, arith}
+use Rattle.std.proofs.Common.{Some, ap, ◌∙◌, arith}
 use Rattle.words.specs.declared.fault.LocatedFault.{LocatedFault}
 use Rattle.reconstruction.specs.Meanings.{saved, room_of}
-use Rattle.trace.specs.Traces.{TraceOutcome}
 use Rattle.trace.specs.Sessions.{progress}
 use Rattle.trace.proofs.Stepping.{step_taken, step_refused, steps_done}
 use Rattle.trace.proofs.reading.send_lines.Goals as goal

@@ -1,4 +1,4 @@
-use Rattle.std.proofs.Common.{◌≡◌, true, get_or, ℤ, pos, sym, refl, ap, ◌∙◌, arith, w16, SFits, rules}
+use Rattle.std.proofs.Common.{◌≡◌, get_or, pos, sym, refl, ◌∙◌, w16, SFits, rules}
 use Rattle.std.proofs.lemmas.Int.{to_z-of_z}
 use Rattle.marking.proofs.Looking.{ranged, clash_found, clash_passed, clash_excepted, clash_end}
 use Rattle.marking.proofs.marks.Marks.clash_literals.Goals as goal

@@ -1,4 +1,4 @@
-use Rattle.std.proofs.Common.{◌≡◌, get_or, ℤ, pos, sym, refl, ap, ◌∙◌, arith, w16, SFits, rules}
+use Rattle.std.proofs.Common.{get_or, pos, w16, SFits, rules}
 use Rattle.std.proofs.lemmas.Int.{to_z-of_z}
 use Rattle.marking.proofs.Looking.{ranged, cover_failed, cover_passed, cover_end}
 use Rattle.marking.proofs.marks.Marks.cover_literals.Goals as goal

@@ -1,4 +1,4 @@
-use Rattle.std.proofs.Common.{◌≡◌, ◌+◌, length, get_or, drop, ℤ, pos, sym, refl, ap, ◌∙◌, w16, SFits, rules}
+use Rattle.std.proofs.Common.{◌+◌, length, get_or, drop, pos, refl, ap, ◌∙◌, w16, SFits, rules}
 use Rattle.std.proofs.lemmas.Int.{to_z-of_z}
 use Rattle.marking.specs.Marking.{with_marks}
 use Rattle.marking.proofs.Looking.{ranged, mark_step, mark_skip, mark_end, marked_clean, with_marks_length}
