@@ -17,9 +17,9 @@ mod judge;
 #[cfg(test)]
 mod limits;
 #[cfg(test)]
-mod random;
+mod line_rules;
 #[cfg(test)]
-mod rules;
+mod random;
 #[cfg(test)]
 mod same;
 #[cfg(test)]

@@ -3,7 +3,7 @@ use Rattle.std.proofs.Common.{◌≡◌, ℕ, ◌≤◌, true, false, ◌⊎◌,
 use mathlib.Core.List.Memᴰ
 use mathlib.Core.List.{Memᴰ}
 use lib.IntN.{neg_ℤ-neg_ℤ}
-use Rattle.std.specs.List.{AllByRecursion as All}
+use Rattle.std.specs.List.{AllByRecursion}
 use Rattle.std.proofs.ByRecursion.{All-weaker}
 use Rattle.std.proofs.lemmas.Bool.{cases_Bool, true≢false, cond_both}
 use Rattle.words.specs.Clauses.{has, rising}
@@ -91,7 +91,7 @@ restored_assignment n [] a s = s
 restored_assignment n (e ∷ es) a s = repaired_assignment n e (restored es a) (restored_assignment n es a s)
 
 -- restoring changes the variables of the pivots only
-pub restored_agrees : (m : ℕ) (es : List Saved) (a : List ℕ) → 1 ≤ m → All (λ e. nat_abs e.pivot ≡ m) es → Agree m a (restored es a)
+pub restored_agrees : (m : ℕ) (es : List Saved) (a : List ℕ) → 1 ≤ m → AllByRecursion (λ e. nat_abs e.pivot ≡ m) es → Agree m a (restored es a)
 restored_agrees m [] a p all = agree_itself m a
 restored_agrees m (e ∷ es) a p all =
     let ih = restored_agrees m es a p all.1 in
@@ -102,7 +102,7 @@ restored_agrees m (e ∷ es) a p all =
     (cases_Bool (met (restored es a) e.lits))
 
 -- what holds of all saved clauses holds of each
-all_at : (P : Saved → Type 0) (es : List Saved) (e : Saved) → All P es → Memᴰ e es → P e
+all_at : (P : Saved → Type 0) (es : List Saved) (e : Saved) → AllByRecursion P es → Memᴰ e es → P e
 all_at P [] e all m = absurd (Memᴰ.not-nil m)
 all_at P (x ∷ es) e all m = ⊎_elim (λ q. subst P (sym q) all.0) (λ q. all_at P es e all.1 q) (Memᴰ.cases_cons m)
 
@@ -143,11 +143,11 @@ module _ (n w : ℕ) (s : List Entry) (z : ℤ) (o : ordered n w 0 s ≡ true) (
       (one_variable f.pivot e.pivot (qf.1 ∙ sym v))
 
   -- restoring the clauses of the variable changes that variable only
-  saved_agrees : (es : List Saved) → All (SavedOf s z) es → Agree (nat_abs z) a (restored es a)
+  saved_agrees : (es : List Saved) → AllByRecursion (SavedOf s z) es → Agree (nat_abs z) a (restored es a)
   saved_agrees es all = restored_agrees (nat_abs z) es a nonzero (All-weaker (SavedOf s z) (λ f. nat_abs f.pivot ≡ nat_abs z) (λ f q. q.1) es all)
 
   -- the saved clauses are met after restoring
-  restored_meets : (es : List Saved) → All (SavedOf s z) es → All (λ e. met (restored es a) e.lits ≡ true) es
+  restored_meets : (es : List Saved) → AllByRecursion (SavedOf s z) es → AllByRecursion (λ e. met (restored es a) e.lits ≡ true) es
   restored_meets [] all = tt
   restored_meets (e ∷ es) all =
       let b = restored es a in
@@ -161,9 +161,9 @@ module _ (n w : ℕ) (s : List Entry) (z : ℤ) (o : ordered n w 0 s ≡ true) (
         repaired_meets n e b assigned re mine.0,
         ⊎_elim
             (λ (k : met b e.lits ≡ true).
-            subst (λ x. All (λ f. met x f.lits ≡ true) es) (sym (repaired_met e b k)) (restored_meets es all.1))
+            subst (λ x. AllByRecursion (λ f. met x f.lits ≡ true) es) (sym (repaired_met e b k)) (restored_meets es all.1))
             (λ (k : met b e.lits ≡ false).
-            subst (λ x. All (λ f. met x f.lits ≡ true) es) (sym (repaired_unmet e b k))
+            subst (λ x. AllByRecursion (λ f. met x f.lits ≡ true) es) (sym (repaired_unmet e b k))
             (All-weaker (SavedOf s z) (λ f. met (made_true e.pivot b) f.lits ≡ true)
             (λ f q. after_made e f mine q b agrees now_true (false_off n (nat_abs z) a b e.lits re agrees k))
             es all.1))
@@ -171,7 +171,7 @@ module _ (n w : ℕ) (s : List Entry) (z : ℤ) (o : ordered n w 0 s ≡ true) (
       )
 
   -- a standing clause without the variable stays met
-  others_stay : (es : List Saved) → All (SavedOf s z) es → (k : ℕ) (c : List ℤ) → Stands s k c → has z c ≡ false → has (neg_ℤ z) c ≡ false → met (restored es a) c ≡ true
+  others_stay : (es : List Saved) → AllByRecursion (SavedOf s z) es → (k : ℕ) (c : List ℤ) → Stands s k c → has z c ≡ false → has (neg_ℤ z) c ≡ false → met (restored es a) c ≡ true
   others_stay es all k c h p q =
       let x = met_some a c (met_free a z s k c model.1 h p q) in
       let other : nat_abs x.0 ≡ nat_abs z → ⊥ = λ v.
@@ -203,14 +203,14 @@ module _ (n w : ℕ) (s : List Entry) (z : ℤ) (o : ordered n w 0 s ≡ true) (
 -- ── What an elimination saves ──
 
 -- each is a standing clause of the variable with the literal that it holds
-eliminated_all : (n w m : ℕ) (s : List Entry) (z : ℤ) → ordered n w m s ≡ true → All (SavedOf s z) (eliminated z s)
+eliminated_all : (n w m : ℕ) (s : List Entry) (z : ℤ) → ordered n w m s ≡ true → AllByRecursion (SavedOf s z) (eliminated z s)
 eliminated_all n w m [] z o = tt
 eliminated_all n w m (e ∷ es) z o =
     let rest = ordered_rest n w m e es o in
     let later = All-weaker (SavedOf es z) (SavedOf (e ∷ es) z) (λ f q. (q.0, q.1, (q.2.0, under_more n w m q.2.0 f.lits e es o q.2.1))) (eliminated z es) (eliminated_all n w e.number es z rest) in
-    cond_both (has z e.lits) _ _ (All (SavedOf (e ∷ es) z))
+    cond_both (has z e.lits) _ _ (AllByRecursion (SavedOf (e ∷ es) z))
     (λ h. ((h, refl, (e.number, under_first e es)), later))
-    (λ _. cond_both (has (neg_ℤ z) e.lits) _ _ (All (SavedOf (e ∷ es) z)) (λ h. ((h, abs_neg z, (e.number, under_first e es)), later)) (λ _. later))
+    (λ _. cond_both (has (neg_ℤ z) e.lits) _ _ (AllByRecursion (SavedOf (e ∷ es) z)) (λ h. ((h, abs_neg z, (e.number, under_first e es)), later)) (λ _. later))
 
 -- a saved clause with some pivot
 abbrev SavedAmong : List ℤ → List Saved → Type 0

@@ -1,7 +1,7 @@
 -- The theorems that the rules rest on, in the terms of propositional logic: nothing here is a step of the checker.
 use Rattle.std.specs.Prelude.{◌≡◌, ℕ, ◌≤◌, true, ◌⊎◌, List, ℤ, neg_ℤ, unsigned_abs}
 use mathlib.Core.List.{Memᴰ}
-use Rattle.std.specs.List.{AllByRecursion as All}
+use Rattle.std.specs.List.{AllByRecursion}
 use Rattle.words.specs.Clauses.{resolvent}
 use Rattle.words.specs.Assignments.{assignment, met, all_met}
 use Rattle.words.specs.Standing.{Entry, clauses, ordered}
@@ -57,7 +57,7 @@ SavedOf s z e = In e.pivot e.lits × (unsigned_abs e.pivot ≡ unsigned_abs z) �
 -- saved clauses are those of the variable of z, in whatever order
 abbrev pub SavesVariable : List Entry → ℤ → List Saved → Type 0
 SavesVariable s z es =
-    All (SavedOf s z) es ×
+    AllByRecursion (SavedOf s z) es ×
     ((k : ℕ) (c : List ℤ) → Stands s k c → In z c ⊎ In (neg_ℤ z) c → (p : ℤ) × Memᴰ (record { pivot = p; lits = c }) es)
 
 -- without the clauses of a covered variable, what stands can be met exactly when it could be with them

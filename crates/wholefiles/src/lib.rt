@@ -14,7 +14,7 @@ mod meeting;
 #[cfg(test)]
 mod printout;
 #[cfg(test)]
-mod rules;
+mod rule_tables;
 #[cfg(test)]
 mod tables;
 #[cfg(test)]
