@@ -103,6 +103,15 @@ save_step room a b now rest x h q r er after f e u =
     let z = e ∙ ap (λ y. save_fault y now (x ∷ [])) er ∙ next_fits room a b now rest x h q in
     ap (λ ys. ys ++ rest) (u ∙ ap (λ g. unless g (now ++ x ∷ []) now) z) ∙ append_assoc now (x ∷ []) rest ∙ q
 
+-- a clause found above k saved with the literal p that it holds
+pub save_found : (room : Room) (a b now : List Saved) (v : ℤ) (k : ℕ) (s : List Entry) (e : Entry) → Found (of_variable v) k s e → (p : ℤ) →
+    save_fault room a b ≡ None → now ++ eliminated v (above k s) ≡ a ++ b → (r : Room) → r ≡ room → (after : List Saved) (f : Option StackFault) →
+    f ≡ save_fault r now (record { pivot = p; lits = e.lits } ∷ []) → after ≡ unless f (now ++ record { pivot = p; lits = e.lits } ∷ []) now →
+    p ≡ cond (has v e.lits) v (neg_ℤ v) → after ++ eliminated v (above e.number s) ≡ a ++ b
+save_found room a b now v k s e found p h q r er after f x u held =
+    save_step room a b now (eliminated v (above e.number s)) (record { pivot = p; lits = e.lits }) h
+    (ap (λ xs. now ++ xs) (sym (saved_held v k s e found p held)) ∙ q) r er after f x u
+
 -- nothing is left to save
 pub append_done : (now rest all : List Saved) → rest ≡ [] → now ++ rest ≡ all → now ≡ all
 append_done now rest all e q = sym (append-nil now) ∙ ap (λ xs. now ++ xs) (sym e) ∙ q

@@ -74,7 +74,9 @@ fn remove_all<D: ClauseDatabase>(db: &mut D, pivot: Literal)
     }
 }
 
-// Judges the line with nothing changed: whether every pair is covered.
+// Judges the line with nothing changed: whether every pair is covered. It has the large table, and stays a call of its own, so that
+// no other line pays for that memory.
+#[inline(never)]
 fn judge<D: ClauseDatabase>(db: &D, bytes: &mut [u8], pivot: Literal) -> Result<(), SessionFault>
     requires { clean_marks bytes.old ≡ true }
     ensures judged { fault_of result ≡ eliminate_fault (D.standing db.now) (e_line pivot.value) }
