@@ -25,7 +25,7 @@ fn end_list<D: ClauseDatabase>(
     db: &mut D,
 ) -> Result<(), FileFault>
     ensures fault { fault_of result ≡ inside Session (load_fault (formula_variables session.old) (loaded_count session.old) (D.limited db.old) (D.standing db.old) (pending_of pending.old)) }
-    ensures after { reading (pending_of pending.exit.now) session.new (D.standing db.new) ≡ unless (fault_of result) (record { pending = []; accepted = loaded_count session.old + 1; entries = load_adds (loaded_count session.old) (D.standing db.old) (pending_of pending.entry.now) }) (reading (pending_of pending.entry.now) session.old (D.standing db.old)) }
+    ensures after { reading (pending_of pending.new) session.new (D.standing db.new) ≡ unless (fault_of result) (record { pending = []; accepted = loaded_count session.old + 1; entries = load_adds (loaded_count session.old) (D.standing db.old) (pending_of pending.old) }) (reading (pending_of pending.old) session.old (D.standing db.old)) }
     ensures variables { formula_variables session.new ≡ formula_variables session.old }
     ensures limits { D.limited db.new ≡ D.limited db.old }
 {

@@ -1,5 +1,5 @@
 -- Literals. A literal is a whole number other than 0: v stands for the variable v, -v for its negation.
--- `nat_abs z` is the variable of z, and `neg_ℤ z` its negation.
+-- `unsigned_abs z` is the variable of z, and `neg_ℤ z` its negation.
 use Rattle.std.specs.Prelude.{ℕ, Bool, true, false, ◌&&◌, ℤ, pos, negsuc, ◌==◌, nat_le, nat_lt, unsigned_abs}
 
 -- whether two literals are the same

@@ -15,7 +15,7 @@ impl<'a> ReconstructionStack<'a> {
     // An empty one over two memories: at most 2,048 entries and 16,384 literals of them are counted.
     pub fn new(entries: &'a mut [SavedEntry], literals: &'a mut [SavedLiteral]) -> Self
         ensures saved { saved result ≡ [] }
-        ensures room { room_of result ≡ record { entries = min (length entries.entry.now) 2048; literals = min (length literals.old) 16384 } }
+        ensures room { room_of result ≡ record { entries = min (length entries.old) 2048; literals = min (length literals.old) 16384 } }
     {
         ReconstructionStack {
             entries: Stack::new(entries, 2048),
