@@ -3,6 +3,8 @@ use Rattle.std.proofs.Common.{◌≡◌, ℕ, suc, ◌+◌, ◌≤◌, Bool, tru
 use Rattle.std.proofs.lemmas.Bool.{cases_Bool, true≢false, cond-true, cond-false, or_cases, or_left, or_right, and_parts, and_from, leb-true, le-leb, ltb-true, lt-ltb, eqb-true, eqb-false, eq-eqb, ne_eqb, not-true, not_from_false}
 use Rattle.std.proofs.lemmas.Bool.Decides.{nat_tests}
 use Rattle.words.specs.declared.limits.Limits.{Limits}
+use Rattle.words.specs.declared.line.Field.{Field}
+use Rattle.words.specs.declared.line.Field.TheVariants as field
 use Rattle.words.specs.declared.line.Kind.{Kind}
 use Rattle.words.specs.declared.line.Kind.TheVariants.{Resolve, Subsumed, Blocked, Eliminate}
 use Rattle.words.specs.declared.line.Line.{Line}
@@ -14,7 +16,7 @@ use Rattle.words.specs.Literals.{literal_ok, number_ok, positive}
 use Rattle.words.specs.Standing.{Entry, ordered, stands, put_fault}
 use Rattle.rules.specs.Satisfying.{Iff}
 use Rattle.rules.specs.Restoring.{Saved, Room, saved_literals, save_fault}
-use Rattle.rules.specs.Lines.{first_false, field_fault, clause_under, line_resolvent, resolve_fault, subsumed_fault, first_unblocked, blocked_fault, side, some_equal, first_uncovered, eliminate_fault, rule_fault, line_saves, space_fault}
+use Rattle.rules.specs.Lines.{all_fields, first_wrong, field_fault, clause_under, line_resolvent, resolve_fault, subsumed_fault, first_unblocked, blocked_fault, side, some_equal, first_uncovered, eliminate_fault, rule_fault, line_saves, space_fault}
 use Rattle.rules.specs.Obeying.{In, Stands, Tautological, IsNumber, InRange, ObeysResolve, ObeysSubsumed, ObeysBlocked, ObeysEliminate, Obeys, HasRoom, Space}
 use Rattle.acceptance.specs.Exactly.{LinesExactly, EmptyExactly}
 use Rattle.acceptance.proofs.Sets.{has_resolvent, subset_has}
@@ -51,29 +53,29 @@ variable_is (negsuc v) = (
 )
 
 -- the next of the fields
-field_passed : (i : ℕ) (b : Bool) (bs : List Bool) → first_false i (b ∷ bs) ≡ None → (b ≡ true) × (first_false (i + 1) bs ≡ None)
-field_passed i true bs h = (refl, h)
-field_passed i false bs h = absurd (none_not_some (i + 1) (sym h))
+field_passed : (f : Field) (fs : List Field) (b : Bool) (bs : List Bool) → first_wrong (f ∷ fs) (b ∷ bs) ≡ None → (b ≡ true) × (first_wrong fs bs ≡ None)
+field_passed f fs true bs h = (refl, h)
+field_passed f fs false bs h = absurd (none_not_some f (sym h))
 
-field_passes : (i : ℕ) (b : Bool) (bs : List Bool) → b ≡ true → first_false (i + 1) bs ≡ None → first_false i (b ∷ bs) ≡ None
-field_passes i b bs e h = cond-true b (first_false (i + 1) bs) (Some (i + 1)) e ∙ h
+field_passes : (f : Field) (fs : List Field) (b : Bool) (bs : List Bool) → b ≡ true → first_wrong fs bs ≡ None → first_wrong (f ∷ fs) (b ∷ bs) ≡ None
+field_passes f fs b bs e h = cond-true b (first_wrong fs bs) (Some f) e ∙ h
 
 -- four fields after the kind
 four_fields : (x y z w : Bool) (P Q R S : Type 0) → Iff (x ≡ true) P → Iff (y ≡ true) Q → Iff (z ≡ true) R → Iff (w ≡ true) S →
-    Iff (inside FieldWrong (first_false 0 (true ∷ (x ∷ (y ∷ (z ∷ (w ∷ [])))))) ≡ None) (P × Q × R × S)
+    Iff (inside FieldWrong (first_wrong all_fields (true ∷ (x ∷ (y ∷ (z ∷ (w ∷ [])))))) ≡ None) (P × Q × R × S)
 four_fields x y z w P Q R S p q r s = (
   λ h.
-      let a = field_passed (0 + 1) x (y ∷ (z ∷ (w ∷ []))) (inside_passed FieldWrong _ h) in
-      let b = field_passed (0 + 1 + 1) y (z ∷ (w ∷ [])) a.1 in
-      let c = field_passed (0 + 1 + 1 + 1) z (w ∷ []) b.1 in
-      let d = field_passed (0 + 1 + 1 + 1 + 1) w [] c.1 in
+      let a = field_passed field.Clause (field.Pivot ∷ (field.First ∷ (field.Second ∷ []))) x (y ∷ (z ∷ (w ∷ []))) (inside_passed FieldWrong _ h) in
+      let b = field_passed field.Pivot (field.First ∷ (field.Second ∷ [])) y (z ∷ (w ∷ [])) a.1 in
+      let c = field_passed field.First (field.Second ∷ []) z (w ∷ []) b.1 in
+      let d = field_passed field.Second [] w [] c.1 in
       (p.0 a.0, q.0 b.0, r.0 c.0, s.0 d.0),
   λ h.
       inside_passes FieldWrong _
-      (field_passes (0 + 1) x (y ∷ (z ∷ (w ∷ []))) (p.1 h.0)
-      (field_passes (0 + 1 + 1) y (z ∷ (w ∷ [])) (q.1 h.1)
-      (field_passes (0 + 1 + 1 + 1) z (w ∷ []) (r.1 h.2)
-      (field_passes (0 + 1 + 1 + 1 + 1) w [] (s.1 h.3) refl)))),
+      (field_passes field.Clause (field.Pivot ∷ (field.First ∷ (field.Second ∷ []))) x (y ∷ (z ∷ (w ∷ []))) (p.1 h.0)
+      (field_passes field.Pivot (field.First ∷ (field.Second ∷ [])) y (z ∷ (w ∷ [])) (q.1 h.1)
+      (field_passes field.First (field.Second ∷ []) z (w ∷ []) (r.1 h.2)
+      (field_passes field.Second [] w [] (s.1 h.3) refl)))),
 )
 
 -- a line by its five fields

@@ -6,6 +6,7 @@ pub mod Pairs
 pub mod Loaded
 pub mod Judged
 pub mod Origins
+pub mod Fields
 pub mod Positions
 pub mod LinePlaces
 pub mod ListPlaces

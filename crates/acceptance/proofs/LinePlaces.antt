@@ -2,6 +2,7 @@
 use Rattle.std.proofs.Common.{◌≡◌, ℕ, ◌≤◌, Bool, true, false, not, List, ℤ, neg_ℤ, Some, Option, sym, refl, ap, ◌∙◌, inl, inr, ⊎_elim, arith}
 use Rattle.std.proofs.lemmas.Bool.{cases_Bool, true≢false, or_from, or_parts, not-false, not_from_true}
 use Rattle.words.specs.declared.limits.Limits.{Limits}
+use Rattle.words.specs.declared.line.Field.{Field}
 use Rattle.words.specs.declared.line.Kind.{Kind}
 use Rattle.words.specs.declared.line.Kind.TheVariants.{Resolve, Subsumed, Blocked, Eliminate}
 use Rattle.words.specs.declared.line.Line.{Line}
@@ -9,36 +10,38 @@ use Rattle.words.specs.declared.fault.SessionFault.{SessionFault}
 use Rattle.words.specs.declared.fault.SessionFault.TheVariants as fault
 use Rattle.words.specs.Checks.{◌then◌, inside}
 use Rattle.words.specs.Clauses.{has, opposed, rising, resolvent}
+use Rattle.words.specs.Conversions.{field_number}
 use Rattle.words.specs.Standing.{Entry, ordered, stands}
 use Rattle.rules.specs.Satisfying.{Iff}
 use Rattle.rules.specs.Restoring.{Saved, Room}
-use Rattle.rules.specs.Lines.{fields, first_false, field_fault, clause_under, first_unblocked, side, covered, first_uncovered, rule_fault, space_fault, line_fault}
+use Rattle.rules.specs.Lines.{fields, all_fields, first_wrong, field_fault, clause_under, first_unblocked, side, covered, first_uncovered, rule_fault, space_fault, line_fault}
 use Rattle.rules.specs.Obeying.{In, Stands, InRange}
 use Rattle.acceptance.specs.Places.{Lowest, FirstPair, WrongField, Unblocked, Uncovered}
 use Rattle.acceptance.proofs.Rising.{opposed_tautological}
-use Rattle.acceptance.proofs.Passing.{inside_passes, past, past_inside, found, finds, inside_found, reaches, reaches_past, false_walk}
+use Rattle.acceptance.proofs.Passing.{inside_passes, past, past_inside, found, finds, inside_found, reaches, reaches_past}
 use Rattle.acceptance.proofs.Entries.{stands_under, under_stands, clause_under_is, under_rising, clashes, FailsUnder, lowest_like, walk_exactly, unblocked_walk}
 use Rattle.acceptance.proofs.Pairs.{side_ordered, side_under, covered_exactly, PairFails, pairs_exactly}
 use Rattle.acceptance.proofs.Judged.{line_of, fields_exactly}
+use Rattle.acceptance.proofs.Fields.{fields_walk, by_number}
 use Rattle.acceptance.proofs.Origins.{sort_of, never_then, never_space, never_rule}
 use Rattle.acceptance.proofs.Positions.{positions_exactly}
 
 module _ (l : Limits) (room : Room) (given : ℕ) (s : List Entry) (saved : List Saved) where
   -- the first wrong field
-  pub fields_place : (k : Kind) (c : ℕ) (p : ℤ) (f g : ℕ) (i : ℕ) →
-      Iff (line_fault l room given s saved (line_of k c p f g) ≡ Some (fault.FieldWrong i)) (Lowest (WrongField (line_of k c p f g)) i)
-  fields_place k c p f g i =
+  pub fields_place : (k : Kind) (c : ℕ) (p : ℤ) (f g : ℕ) (x : Field) →
+      Iff (line_fault l room given s saved (line_of k c p f g) ≡ Some (fault.FieldWrong x)) (Lowest (WrongField (line_of k c p f g)) (field_number x))
+  fields_place k c p f g x =
       let line = line_of k c p f g in
       let rest = rule_fault given s line then space_fault l room s saved line in
-      let exact = positions_exactly (λ (b : Bool). b) true (fields line) i in
-      let walk = false_walk 0 (fields line) in
+      let exact = positions_exactly (λ (b : Bool). b) true (fields line) (field_number x) in
+      let walk = fields_walk k c p f g in
       let never = never_then 1 (rule_fault given s line) (space_fault l room s saved line)
       (never_rule 1 given s k c p f g (omega arith) (λ e _. omega arith) (λ e _. omega arith)) (never_space 1 l room s saved k c p f g (omega arith)) in (
         λ h.
-            let x = inside_found fault.FieldWrong (fault.FieldWrong i) (first_false 0 (fields line)) (found (field_fault line) rest (fault.FieldWrong i) (λ e. never (fault.FieldWrong i) e refl) h) in
-            let q : x.0 ≡ i = let e = x.2 in cc in
-            exact.0 (sym walk ∙ x.1 ∙ ap Some q),
-        λ a. finds (field_fault line) rest (fault.FieldWrong i) (ap (inside fault.FieldWrong) (walk ∙ exact.1 a)),
+            let y = inside_found fault.FieldWrong (fault.FieldWrong x) (first_wrong all_fields (fields line)) (found (field_fault line) rest (fault.FieldWrong x) (λ e. never (fault.FieldWrong x) e refl) h) in
+            let q : y.0 ≡ x = let e = y.2 in cc in
+            exact.0 (sym walk ∙ ap (inside field_number) (y.1 ∙ ap Some q)),
+        λ a. finds (field_fault line) rest (fault.FieldWrong x) (ap (inside fault.FieldWrong) (by_number (first_wrong all_fields (fields line)) x (walk ∙ exact.1 a))),
       )
 
 -- a clause fails rule B exactly when it holds the negated pivot and its resolvent is not tautological
@@ -115,8 +118,8 @@ module _ (n : ℕ) (l : Limits) (room : Room) (given : ℕ) (s : List Entry) (sa
       line_fault l room given s saved (line_of k c p f g) ≡ Some x → InRange (line_of k c p f g) × (rule_fault given s (line_of k c p f g) ≡ Some x)
   from_rule m k c p f g x e low h =
       let line = line_of k c p f g in
-      let a = past_inside fault.FieldWrong x (first_false 0 (fields line)) (rule_fault given s line then space_fault l room s saved line) (λ i q. let z : 1 ≡ sort_of x = ap sort_of q in omega arith) h in (
-        (fields_exactly k c p f g).0 (inside_passes fault.FieldWrong (first_false 0 (fields line)) a.0),
+      let a = past_inside fault.FieldWrong x (first_wrong all_fields (fields line)) (rule_fault given s line then space_fault l room s saved line) (λ i q. let z : 1 ≡ sort_of x = ap sort_of q in omega arith) h in (
+        (fields_exactly k c p f g).0 (inside_passes fault.FieldWrong (first_wrong all_fields (fields line)) a.0),
         found (rule_fault given s line) (space_fault l room s saved line) x (λ q. never_space m l room s saved k c p f g (omega arith) x q e) a.1,
       )
 

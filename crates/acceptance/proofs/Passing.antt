@@ -5,7 +5,6 @@ use Rattle.words.specs.Checks.{check, ◌then◌, inside}
 use Rattle.words.specs.Literals.{literal_ok}
 use Rattle.rules.specs.Restoring.{bad_byte}
 use Rattle.rules.specs.Loading.{beyond_at}
-use Rattle.rules.specs.Lines.{first_false}
 
 -- no fault is not a fault
 pub none_not_some : {F : Type 0} (f : F) → ◌≡◌ {A = Option F} None (Some f) → ⊥
@@ -121,10 +120,6 @@ beyond_walk n i (z ∷ zs) = ap (λ o. cond (literal_ok n z) o (Some (i + 1))) (
 pub byte_walk : (i : ℕ) (a : List ℕ) → bad_byte i a ≡ first_at (λ b. leb b 1) i a
 byte_walk i [] = refl
 byte_walk i (b ∷ bs) = ap (λ o. cond (leb b 1) o (Some (i + 1))) (byte_walk (i + 1) bs)
-
-pub false_walk : (i : ℕ) (bs : List Bool) → first_false i bs ≡ first_at (λ b. b) i bs
-false_walk i [] = refl
-false_walk i (b ∷ bs) = ap (λ o. cond b o (Some (i + 1))) (false_walk (i + 1) bs)
 
 -- a fault after checks that were passed
 pub reaches : {F : Type 0} (x y : Option F) (f : F) → x ≡ None → y ≡ Some f → ◌≡◌ {A = Option F} (x then y) (Some f)

@@ -7,7 +7,7 @@ use Rattle.acceptance.proofs.RestorePlaces.{byte_place, unmet_place}
 -- all places
 pub all_places : RefusalPlaces
 all_places = record {
-  field_place = λ l room given s saved line i. fields_place l room given s saved line.kind line.clause line.pivot line.first line.second i;
+  field_place = λ l room given s saved line f. fields_place l room given s saved line.kind line.clause line.pivot line.first line.second f;
   blocked_place = λ n l room given s saved line k o. blocked_place n l room given s saved o line.kind line.clause line.pivot line.first line.second k;
   uncovered_place = λ n l room given s saved line i j o. uncovered_place n l room given s saved o line.kind line.clause line.pivot line.first line.second i j;
   beyond_place = beyond_place;

@@ -1,10 +1,12 @@
 -- Where a refusal points: the place of each fault that a walk finds is the first one at fault, by number or by position.
 use Rattle.std.specs.Prelude.{◌≡◌, ℕ, ◌-◌, ◌<◌, ◌≤◌, true, false, ◌⊎◌, List, length, take, ℤ, pos, neg_ℤ, Some, slice_index, slice_index_or}
 use Rattle.words.specs.declared.limits.Limits.{Limits}
+use Rattle.words.specs.declared.line.Field.{Field}
 use Rattle.words.specs.declared.line.Kind.TheVariants.{Blocked, Eliminate}
 use Rattle.words.specs.declared.line.Line.{Line}
 use Rattle.words.specs.declared.fault.SessionFault.TheVariants.{FieldWrong, NotBlocked, NotCovered, LiteralBeyond, TooManyLiterals, AssignmentByte, Unmet}
 use Rattle.words.specs.Assignments.{assignment, met}
+use Rattle.words.specs.Conversions.{field_number}
 use Rattle.words.specs.Standing.{Entry, ordered}
 use Rattle.rules.specs.Satisfying.{Iff}
 use Rattle.rules.specs.Restoring.{Saved, Room, restore_fault}
@@ -63,10 +65,10 @@ UnmetUnder s a k = (d : List ℤ) × Stands s k d × (met a d ≡ false)
 -- ── The places ──
 
 pub record RefusalPlaces : Type 0 where
-  -- of a line: the first wrong field
+  -- of a line: the first wrong field, by its place from 1 to 5
   pub field_place :
-      (l : Limits) (room : Room) (given : ℕ) (s : List Entry) (saved : List Saved) (line : Line) (i : ℕ) →
-      Iff (line_fault l room given s saved line ≡ Some (FieldWrong i)) (Lowest (WrongField line) i)
+      (l : Limits) (room : Room) (given : ℕ) (s : List Entry) (saved : List Saved) (line : Line) (f : Field) →
+      Iff (line_fault l room given s saved line ≡ Some (FieldWrong f)) (Lowest (WrongField line) (field_number f))
   -- of a B line: the lowest number of a clause that is not blocked
   pub blocked_place :
       (n : ℕ) (l : Limits) (room : Room) (given : ℕ) (s : List Entry) (saved : List Saved) (line : Line) (k : ℕ) → ordered n 64 0 s ≡ true →

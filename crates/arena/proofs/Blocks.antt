@@ -1,63 +1,47 @@
 -- Blocks that are put into the live part of a memory, or taken out of it.
-use Rattle.std.proofs.Common.{◌≡◌, ℕ, ◌+◌, ◌-◌, ◌≤◌, List, ◌++◌, length, take, drop, sym, refl, ap, ◌∙◌, arith}
-use Rattle.std.proofs.lemmas.List.{append_assoc, take_at, drop-drop, take-append-drop, length-append, length-take, length-drop, length-take-le}
-use Rattle.std.proofs.lemmas.List.Edits.{paste_all, length-paste}
-use Rattle.words.specs.Blocks.{swapped, exchanged, overwritten}
-use Rattle.words.proofs.Swaps.{swapped_blocks, exchanged_is, overwritten_is}
+use Rattle.std.proofs.Common.{◌≡◌, ℕ, ◌+◌, ◌-◌, ◌≤◌, List, ◌++◌, length, take, drop, sym, ap, ◌∙◌, arith}
+use borrow.Rule.Slice.PartMut.{put_mid}
+use Rattle.std.specs.List.{copy_within}
+use Rattle.std.proofs.lemmas.List.{append_assoc, take_at, drop_at, take-append-le, drop-take, drop-drop, take-take, length-append, length-take, length-drop, length-take-le}
 use Rattle.arena.specs.Splices.{opened, closed}
 
--- a block written behind the live part and exchanged with what lies from its place on
-pub opened_live : {X : Type 0} (s xs s' s'' : List X) (n i : ℕ) → i ≤ n → n + length xs ≤ length s →
-    s' ≡ overwritten s n xs → s'' ≡ exchanged s' i n (n + length xs) → take (n + length xs) s'' ≡ opened (take n s) i xs
-opened_live s xs s' s'' n i h k e f =
-    let p = take i (take n s) in
-    let q = drop i (take n s) in
-    let rest = drop (n + length xs) s in
-    let ln = length-take-le n s (omega arith) in
-    let lp : length p ≡ i = length-take-le i (take n s) (omega arith) in
-    let lq : length q ≡ n - i = length-drop i (take n s) ∙ ap (λ m. m - i) ln in
-    let w1 = overwritten_is s n xs k in
-    let w2 = paste_all s n xs (length xs) refl in
-    let w3 = take-append-drop i (take n s) in
-    let w4 = append_assoc p q (xs ++ rest) in
-    let w : s' ≡ p ++ (q ++ (xs ++ rest)) = cc in
-    let l : length s' ≡ length s = ap length (e ∙ w1) ∙ length-paste s n xs (length xs) k (omega arith) in
-    let e1 = exchanged_is s' i n (n + length xs) h (omega arith) (omega arith) in
-    let e2 = ap (λ t. swapped t i n (n + length xs)) w in
-    let e3 = swapped_blocks p q xs rest i n (n + length xs) (sym lp) (omega arith) (omega arith) in
+-- the elements from i to n moved to a place j
+moved : {X : Type 0} (s : List X) (i n j : ℕ) → copy_within s i n j ≡ take j s ++ (take (n - i) (drop i s) ++ drop (j + (n - i)) s)
+moved s i n j = append_assoc (take j s) (take (n - i) (drop i s)) (drop (j + (n - i)) s)
+
+-- the elements from i on moved up, and a block written in their place
+pub opened_live : {X : Type 0} (s xs s' ys : List X) (n i e : ℕ) → e ≡ i + length xs → i ≤ n → n + length xs ≤ length s →
+    s' ≡ copy_within s i n e → ys ≡ xs → take (n + length xs) (put_mid i (e - i) s' ys) ≡ opened (take n s) i xs
+opened_live s xs s' ys n i e z h k m w =
+    let q = take (n - i) (drop i s) in
+    let rest = drop (e + (n - i)) s in
+    let v = m ∙ moved s i n e in
+    let le : length (take e s) ≡ e = length-take-le e s (omega arith) in
+    let lq : length q ≡ n - i = length-take-le (n - i) (drop i s) (simp length-drop (omega arith)) in
+    let t1 : take i s' ≡ take i s = ap (take i) v ∙ take-append-le i (take e s) (q ++ rest) (omega arith) ∙ take-take i e s (omega arith) in
+    let d1 : drop (e - i) (drop i s') ≡ q ++ rest = drop-drop (e - i) i s' ∙ ap (λ j. drop j s') (let y : i + (e - i) ≡ e = omega arith in y) ∙ ap (drop e) v ∙ drop_at (take e s) (q ++ rest) e le in
     let a1 = append_assoc xs q rest in
-    let a2 = append_assoc p (xs ++ q) rest in
-    let lt : length (p ++ (xs ++ q)) ≡ n + length xs = simp length-append (omega arith) in
-    let t = take_at (p ++ (xs ++ q)) rest (n + length xs) lt in
+    let a2 = append_assoc (take i s) (xs ++ q) rest in
+    let t2 : take i (take n s) ≡ take i s = take-take i n s h in
+    let d2 : drop i (take n s) ≡ q = let y : i + (n - i) ≡ n = omega arith in ap (λ j. drop i (take j s)) (sym y) ∙ drop-take i (n - i) s in
+    let li = length-take-le i s (omega arith) in
+    let lt : length (take i s ++ (xs ++ q)) ≡ n + length xs = simp length-append (omega arith) in
+    let t = take_at (take i s ++ (xs ++ q)) rest (n + length xs) lt in
     cc
 
--- a block exchanged with what lies behind it in the live part
+-- the elements behind a block moved down over it
 pub closed_live : {X : Type 0} (s s' : List X) (n i m : ℕ) → i + m ≤ n → n ≤ length s →
-    s' ≡ exchanged s i (i + m) n → take (n - m) s' ≡ closed (take n s) i m
+    s' ≡ copy_within s (i + m) n i → take (n - m) s' ≡ closed (take n s) i m
 closed_live s s' n i m h k e =
-    let live = take n s in
-    let p = take i live in
-    let q = take m (drop i live) in
-    let t = drop (i + m) live in
-    let rest = drop n s in
-    let ln = length-take-le n s k in
-    let lp : length p ≡ i = length-take-le i live (omega arith) in
-    let ld : length (drop i live) ≡ n - i = length-drop i live ∙ ap (λ x. x - i) ln in
-    let lq : length q ≡ m = length-take-le m (drop i live) (omega arith) in
-    let lt : length t ≡ n - (i + m) = length-drop (i + m) live ∙ ap (λ x. x - (i + m)) ln in
-    let w1 = take-append-drop n s in
-    let w2 = take-append-drop i live in
-    let w3 = take-append-drop m (drop i live) in
-    let w4 = drop-drop m i live in
-    let a1 = append_assoc q t rest in
-    let a2 = append_assoc p (q ++ t) rest in
-    let w : s ≡ p ++ (q ++ (t ++ rest)) = cc in
-    let e1 = exchanged_is s i (i + m) n (omega arith) h k in
-    let e2 = ap (λ y. swapped y i (i + m) n) w in
-    let e3 = swapped_blocks p q t rest i (i + m) n (sym lp) (omega arith) (omega arith) in
-    let a3 = append_assoc p t (q ++ rest) in
-    let l : length (p ++ t) ≡ n - m = simp length-append (omega arith) in
-    let z = take_at (p ++ t) (q ++ rest) (n - m) l in
+    let q = take (n - (i + m)) (drop (i + m) s) in
+    let rest = drop (i + (n - (i + m))) s in
+    let li = length-take-le i s (omega arith) in
+    let lq : length q ≡ n - (i + m) = length-take-le (n - (i + m)) (drop (i + m) s) (simp length-drop (omega arith)) in
+    let a = append_assoc (take i s) q rest in
+    let t2 : take i (take n s) ≡ take i s = take-take i n s (omega arith) in
+    let d2 : drop (i + m) (take n s) ≡ q = let y : i + m + (n - (i + m)) ≡ n = omega arith in ap (λ j. drop (i + m) (take j s)) (sym y) ∙ drop-take (i + m) (n - (i + m)) s in
+    let lt : length (take i s ++ q) ≡ n - m = simp length-append (omega arith) in
+    let t = take_at (take i s ++ q) rest (n - m) lt in
     cc
 
 -- the length with a block put in

@@ -1,10 +1,11 @@
 -- Clauses of records and literals that are put together or taken apart.
-use Rattle.std.proofs.Common.{◌≡◌, ℕ, zero, suc, ◌+◌, ◌-◌, ◌<◌, ◌≤◌, true, ◌&&◌, List, [], ◌∷◌, ◌++◌, length, get_or, take, drop, ℤ, sym, refl, ap, ◌∙◌, arith}
+use Rattle.std.proofs.Common.{◌≡◌, ℕ, zero, suc, ◌+◌, ◌-◌, ◌<◌, ◌≤◌, true, ◌&&◌, List, [], ◌∷◌, ◌++◌, map, length, get_or, take, drop, ℤ, sym, refl, ap, ◌∙◌, arith}
 use Rattle.std.specs.List.{between}
-use Rattle.std.proofs.lemmas.List.{append_assoc, take_at, take-take, drop-take, drop-drop, take-append-le, drop-append-le, take-append-drop, length-append, length-take, length-take-le, length-drop}
+use Rattle.std.proofs.lemmas.List.{take-take, drop-take, drop-drop, take-append-le, drop-append-le, take-append-drop, length-take, length-take-le, length-drop}
 use Rattle.std.proofs.lemmas.Bool.Decides.{nat_tests}
 use Rattle.words.specs.Standing.{Entry, literals}
-use Rattle.arena.specs.Layout.{entries, total, packed, repacked, repacked_in}
+use Rattle.database.specs.Places.{numbers}
+use Rattle.arena.specs.Layout.{entries, total, packed, repacked}
 use Rattle.arena.specs.declared.records.Record.{Record}
 
 -- two rows of records, each with its literals
@@ -51,6 +52,21 @@ entries_drop (suc i) (r ∷ rs) ls =
     let ih = entries_drop i rs (drop r.len ls) in
     let d = drop-drop (total (take i rs)) r.len ls in
     cc
+
+-- the clause of the record at i
+pub entry_is : (rs : List Record) (ls : List ℤ) (i : ℕ) (d : Record) (e : Entry) → i < length rs →
+    get_or (entries rs ls) i e ≡ record { number = (get_or rs i d).number; lits = take (get_or rs i d).len (drop (total (take i rs)) ls) }
+entry_is [] ls i d e h = absurd (omega arith)
+entry_is (r ∷ rs) ls zero d e h = refl
+entry_is (r ∷ rs) ls (suc i) d e h =
+    let ih = entry_is rs (drop r.len ls) i d e (omega arith) in
+    let q = drop-drop (total (take i rs)) r.len ls in
+    cc
+
+-- the numbers of records are those of their clauses
+pub same_numbers : (rs : List Record) (ls : List ℤ) → map (λ r. r.number) rs ≡ numbers (entries rs ls)
+same_numbers [] ls = refl
+same_numbers (r ∷ rs) ls = ap (λ l. r.number ∷ l) (same_numbers rs (drop r.len ls))
 
 -- as many clauses as records
 pub length_entries : (rs : List Record) (ls : List ℤ) → length (entries rs ls) ≡ length rs
@@ -130,17 +146,3 @@ pub between_live : {X : Type 0} (xs : List X) (i e : ℕ) → i ≤ e → betwee
 between_live xs i e h =
     let n : i + (e - i) ≡ e = omega arith in
     sym (drop-take i (e - i) xs) ∙ ap (λ m. drop i (take m xs)) n
-
--- the part in use after its beginnings from a place on are written anew
-pub repacked_live : (rs : List Record) (i e at : ℕ) → i ≤ e → e ≤ length rs → take e (repacked_in rs i e at) ≡ take i (take e rs) ++ repacked at (drop i (take e rs))
-repacked_live rs i e at h k =
-    let t1 = take-take i e rs h in
-    let b = between_live rs i e h in
-    let le = length-take-le e rs k in
-    let lb : length (drop i (take e rs)) ≡ e - i = length-drop i (take e rs) ∙ ap (λ m. m - i) le in
-    let lr = length_repacked at (drop i (take e rs)) in
-    let lt = length-take-le i rs (omega arith) in
-    let l : length (take i rs ++ repacked at (drop i (take e rs))) ≡ e = simp length-append (omega arith) in
-    let a = append_assoc (take i rs) (repacked at (drop i (take e rs))) (drop e rs) in
-    let t2 = take_at (take i rs ++ repacked at (drop i (take e rs))) (drop e rs) e l in
-    cc

@@ -2,7 +2,6 @@ pub mod Blocks
 pub mod Packs
 pub mod Entries
 pub mod Changes
-pub mod Orders
 pub mod Rows
 pub mod Refuses
 pub mod Words

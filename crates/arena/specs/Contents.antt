@@ -1,8 +1,8 @@
 -- What the two memories of an arena mean, by how much of each is in use.
-use Rattle.std.specs.Prelude.{◌≡◌, ℕ, ◌≤◌, min, true, List, length, take, ℤ}
+use Rattle.std.specs.Prelude.{ℕ, min, List, length, take, ℤ}
 use Rattle.words.specs.Standing.{Entry}
 use Rattle.words.specs.declared.limits.Limits.{Limits}
-use Rattle.arena.specs.Layout.{entries, total, packed}
+use Rattle.arena.specs.Layout.{entries}
 use Rattle.arena.specs.declared.memory.Memory.{Memory}
 use Rattle.arena.specs.declared.records.Record.{Record}
 
@@ -25,11 +25,3 @@ limits_over rs ls = record { variables = 512; width = 64; clauses = min rs 1024;
 -- the limits
 abbrev pub limits_of : Memory → Limits
 limits_of m = limits_over (length m.records.now) (length m.literals.now)
-
--- that the memories are laid out well: what is in use is there, and the literals lie as the records say, without gaps
-pub record Laid (m : Memory) : Type 0 where
-  pub few : m.count ≤ length m.records.now
-  pub room : m.used ≤ length m.literals.now
-  pub below : m.used ≤ 16384
-  pub sum : total (live_records m) ≡ m.used
-  pub packs : packed 0 (live_records m) ≡ true

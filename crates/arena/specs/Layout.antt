@@ -1,6 +1,5 @@
 -- How records and literals lie in the two memories, and what they mean.
-use Rattle.std.specs.Prelude.{ℕ, ◌+◌, Bool, true, ◌&&◌, List, [], ◌∷◌, ◌++◌, take, drop, ℤ, ◌==◌}
-use Rattle.std.specs.List.{between}
+use Rattle.std.specs.Prelude.{ℕ, ◌+◌, Bool, true, ◌&&◌, List, [], ◌∷◌, take, drop, ℤ, ◌==◌}
 use Rattle.words.specs.Standing.{Entry}
 use Rattle.arena.specs.declared.records.Record.{Record}
 
@@ -23,7 +22,3 @@ packed at (r ∷ rs) = r.start == at && packed (at + r.len) rs
 abbrev pub repacked : ℕ → List Record → List Record
 repacked at [] = []
 repacked at (r ∷ rs) = record { number = r.number; start = at; len = r.len } ∷ repacked (at + r.len) rs
-
--- the same from a place to an end, the others as they are
-abbrev pub repacked_in : List Record → ℕ → ℕ → ℕ → List Record
-repacked_in rs i e at = take i rs ++ (repacked at (between i e rs) ++ drop e rs)

@@ -1,4 +1,4 @@
 pub mod Splices
 pub mod Layout
 pub mod Contents
-pub mod Order
+pub mod Laws

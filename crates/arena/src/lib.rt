@@ -3,6 +3,7 @@
 #![tactic(auto)]
 
 pub mod arena;
+mod interface;
 mod memory;
 mod packing;
 pub mod records;

@@ -1,4 +1,5 @@
-// Where the literals of a clause lie: they begin at `start` and are `len`.
+// Where the literals of a clause lie: they begin at `start` and are `len`. Plain numbers: a memory is made of records of no clause, and
+// the literals are one lent memory that its records can't borrow.
 #[derive(Clone, Copy)]
 pub struct Record {
     pub number: u32,

@@ -2,10 +2,5 @@ pub mod Bits
 pub mod Decoding
 pub mod Telling
 pub mod Reading
-pub mod Ranks
-pub mod Standings
-pub mod Places
-pub mod Moves
-pub mod Tables
 pub mod Faults
-pub mod Changes
+pub mod Tables

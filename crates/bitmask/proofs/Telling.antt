@@ -1,12 +1,10 @@
 -- Masks that tell the literals of a list, one more at a time.
-use Rattle.std.proofs.Common.{◌≡◌, ℕ, zero, suc, ◌+◌, ◌-◌, ◌*◌, ◌%◌, ◌^◌, ◌<◌, ◌≤◌, true, false, leb, List, [], ◌∷◌, ◌++◌, length, get_or, take, ℤ, pos, negsuc, nat_abs, sym, ap, ◌∙◌, subst, arith}
+use Rattle.std.proofs.Common.{◌≡◌, ℕ, ◌+◌, ◌-◌, ◌*◌, ◌%◌, ◌^◌, ◌<◌, ◌≤◌, true, false, List, [], ◌∷◌, ◌++◌, ℤ, pos, negsuc, nat_abs, sym, ap, subst, arith}
 use lib.Signed.{lt_z}
 use lib.Bits.{bit_or}
 use Rattle.std.proofs.lemmas.Nat.{one_shl}
-use Rattle.std.proofs.lemmas.List.{take_more}
 use Rattle.std.proofs.lemmas.Bool.{false≢true}
 use Rattle.std.proofs.lemmas.Bool.Decides.{nat_tests}
-use Rattle.words.specs.Clauses.{rising, within}
 use Rattle.words.proofs.Inserts.{has_push}
 use Rattle.bitmask.specs.Masks.{decoded, Tells}
 use Rattle.bitmask.specs.Slots.{entry}
@@ -73,33 +71,6 @@ module _ (p n u : ℕ) (l : ℤ) (low : 1 ≤ nat_abs l) (high : nat_abs l ≤ 6
       subst (λ x. Tells p (bit_or n x) (zs ++ (l ∷ []))) (sym s)
       (subst (λ z. Tells p (bit_or n (2 ^ (u - 1))) (zs ++ (z ∷ []))) (sym (negative_is l u h low e)) (tells_negative p n (u - 1) zs t))
 
--- of a clause the last literal has the highest variable
-pub within_last : (v w m i : ℕ) (zs : List ℤ) → rising v m zs ≡ true → i + 1 ≡ length zs → within w zs ≡ leb (nat_abs (get_or zs i (pos 0))) w
-within_last v w m i [] r h = absurd (omega arith)
-within_last v w m zero (z ∷ []) r h = grind (arith, nat_tests)
-within_last v w m (suc i) (z ∷ []) r h = absurd (omega arith)
-within_last v w m zero (z ∷ (y ∷ zs)) r h = absurd (omega arith)
-within_last v w m (suc i) (z ∷ (y ∷ zs)) r h =
-    let k : rising v (nat_abs z) (y ∷ zs) ≡ true = grind (arith, nat_tests) in
-    let ih = within_last v w (nat_abs z) i (y ∷ zs) k (omega arith) in
-    grind (arith, nat_tests)
-
--- the literals of a clause are of variables from 1 to the bound
-pub literal_bounds : (v w m i : ℕ) (zs : List ℤ) → rising v m zs ≡ true → within w zs ≡ true → i < length zs → (1 ≤ nat_abs (get_or zs i (pos 0))) × (nat_abs (get_or zs i (pos 0)) ≤ w)
-literal_bounds v w m i [] r h k = absurd (omega arith)
-literal_bounds v w m zero (z ∷ zs) r h k = (grind (arith, nat_tests), grind (arith, nat_tests))
-literal_bounds v w m (suc i) (z ∷ zs) r h k =
-    let r1 : rising v (nat_abs z) zs ≡ true = grind (arith, nat_tests) in
-    let h1 : within w zs ≡ true = grind (arith, nat_tests) in
-    literal_bounds v w (nat_abs z) i zs r1 h1 (omega arith)
-
 -- a slot from its number and what its masks tell
 pub entry_is : (s : Slot) (k : ℕ) (zs : List ℤ) → s.number ≡ k → decoded s.plus s.minus ≡ zs → entry s ≡ record { number = k; lits = zs }
 entry_is s k zs e d = cc
-
--- a step through a list: the masks with its next literal tell one more
-pub tells_more : (p n p' n' i : ℕ) (xs : List ℤ) (x : ℤ) → i < length xs → x ≡ get_or xs i (pos 0) →
-    ((zs : List ℤ) → Tells p n zs → Tells p' n' (zs ++ (x ∷ []))) → Tells p n (take i xs) → Tells p' n' (take (i + 1) xs)
-tells_more p n p' n' i xs x h e step t =
-    let q = take_more xs i (pos 0) h ∙ ap (λ y. take i xs ++ (y ∷ [])) (sym e) in
-    subst (Tells p' n') (sym q) (step (take i xs) t)

@@ -1,3 +1,4 @@
 pub mod Masks
 pub mod Slots
 pub mod Meanings
+pub mod Laws

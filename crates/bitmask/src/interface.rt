@@ -1,16 +1,18 @@
 ghost use Rattle.bitmask.specs.Meanings.{mask_limits, standing_in};
+ghost use Rattle.bitmask.specs.Laws.{lawful_table};
 
 use crate::Bitmask;
 use database::ClauseDatabase;
 use words::{Clause, ClauseNumber, DatabaseFault, Limits};
 
-// The clauses of the used slots stand.
+// The clauses of the slots stand. The other kind has the same lines for put and remove: to share them, place, vacancy, insert and cut
+// would be open to every caller.
 impl ClauseDatabase for Bitmask {
     ghost standing = { λ b. standing_in b };
 
     ghost limited = { λ _. mask_limits };
 
-    fn lawful(&self) {}
+    ghost lawful = { λ b. lawful_table b };
 
     fn limits(&self) -> Limits {
         Limits {
@@ -22,11 +24,11 @@ impl ClauseDatabase for Bitmask {
     }
 
     fn count(&self) -> usize {
-        self.count
+        self.slots.len()
     }
 
     fn literal_total(&self) -> usize {
-        self.total
+        self.total()
     }
 
     fn next(&self, above: u32) -> Option<ClauseNumber> {
@@ -34,27 +36,21 @@ impl ClauseDatabase for Bitmask {
     }
 
     fn clause(&self, number: ClauseNumber) -> Option<Clause> {
-        match self.find(number) {
-            Some(slot) => Some(slot.clause()),
-            None => None,
-        }
+        let slot = self.find(number)?;
+        Some(slot.clause())
     }
 
     fn put(&mut self, number: ClauseNumber, clause: &Clause) -> Result<(), DatabaseFault> {
-        match self.refusal(number, clause) {
-            Some(fault) => Err(fault),
-            None => {
-                self.insert(number, clause);
-                Ok(())
-            }
-        }
+        let place = self.vacancy(number, clause)?;
+        self.insert(place, number, clause);
+        Ok(())
     }
 
     fn remove(&mut self, number: ClauseNumber) -> Result<(), DatabaseFault> {
-        if self.delete(number) {
-            Ok(())
-        } else {
-            Err(DatabaseFault::Absent(number.value))
-        }
+        let place = self
+            .place(number)
+            .map_err(|_| DatabaseFault::Absent(number.value))?;
+        self.cut(place);
+        Ok(())
     }
 }

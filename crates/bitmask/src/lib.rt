@@ -3,13 +3,16 @@
 
 #![tactic(auto)]
 
-ghost use Rattle.std.specs.Prelude.{◌≡◌, [], if◌then◌else◌, None};
+ghost use Rattle.std.specs.Prelude.{◌≡◌, ◌<◌, true, [], length, is_ok, IfOk, OnOk, Err, remove};
 ghost use Rattle.std.specs.Option.{option_map};
+ghost use Rattle.arrayvec.specs.ArrayVec.{array_vec_len};
+ghost use Rattle.words.specs.Checks.{fault_of};
+ghost use Rattle.words.specs.Clauses.{within};
 ghost use Rattle.words.specs.Meanings.{lits_of};
-ghost use Rattle.words.specs.Standing.{stands, under, next_above, inserted, without, put_fault};
+ghost use Rattle.words.specs.Standing.{stands, under, next_above, literals, inserted, without, put_fault};
+ghost use Rattle.database.specs.Places.{place_of, rest_of};
 ghost use Rattle.bitmask.specs.Masks.{decoded};
 ghost use Rattle.bitmask.specs.Meanings.{mask_limits, standing_in};
-ghost use Rattle.bitmask.specs.Slots.{first_above, place_of};
 
 mod interface;
 mod slot;
@@ -17,9 +20,9 @@ mod table;
 #[cfg(test)]
 mod tests;
 
+use arrayvec::ArrayVec;
 use slot::{Slot, fits};
 pub use table::Bitmask;
-use words::blocks::exchange;
 use words::{Clause, ClauseNumber, DatabaseFault};
 
 impl Bitmask {
@@ -28,109 +31,81 @@ impl Bitmask {
         ensures { standing_in result ≡ [] }
     {
         Bitmask {
-            slots: [Slot::UNUSED; 256],
-            count: 0,
-            total: 0,
+            slots: ArrayVec::new(),
         }
     }
 
-    // The place of the first used slot with a number above a given one, or the end of the used slots.
-    fn place_above(&self, bound: u32) -> usize
-        ensures { result ≡ first_above bound (standing_in self.now) }
+    // The place of a number where it stands, or else where it would go.
+    fn place(&self, number: ClauseNumber) -> Result<usize, usize>
+        ensures place { result ≡ place_of number.value (standing_in self.now) }
+        ensures within { IfOk result (λ i. i < length (standing_in self.now)) }
+        ensures known { is_ok result ≡ stands number.value (standing_in self.now) }
+        ensures rest { rest_of result (standing_in self.now) ≡ without number.value (standing_in self.now) }
     {
-        let mut low = 0;
-        let mut high = self.count;
-        while low < high {
-            let middle = low + (high - low) / 2;
-            if self.slots[middle].number <= bound {
-                low = middle + 1;
-            } else {
-                high = middle;
-            }
-        }
-        low
-    }
-
-    // The place of the slot under a number, if it stands.
-    fn place(&self, number: ClauseNumber) -> Option<usize>
-        ensures { result ≡ place_of number.value (standing_in self.now) }
-    {
-        let at = self.place_above(number.value - 1);
-        if at < self.count && self.slots[at].number == number.value {
-            Some(at)
-        } else {
-            None
-        }
+        let slots = self.slots.as_slice();
+        slots.binary_search_by_key(&number.value, |slot| slot.number)
     }
 
     // The slot under a number, or none.
     fn find(&self, number: ClauseNumber) -> Option<Slot>
         ensures { option_map (λ s. decoded s.plus s.minus) result ≡ under number.value (standing_in self.now) }
     {
-        match self.place(number) {
-            Some(at) => Some(self.slots[at]),
-            None => None,
-        }
+        let place = self.place(number).ok()?;
+        Some(self.slots.as_slice()[place])
     }
 
     // The lowest standing number above a given one, or none.
     fn successor(&self, bound: u32) -> Option<ClauseNumber>
         ensures { option_map (λ k. k.value) result ≡ next_above bound (standing_in self.now) }
     {
-        let at = self.place_above(bound);
-        if at < self.count {
-            Some(ClauseNumber {
-                value: self.slots[at].number,
-            })
-        } else {
-            None
-        }
+        let slots = self.slots.as_slice();
+        let place = slots.partition_point(|slot| slot.number <= bound);
+        let slot = slots.get(place)?;
+        Some(ClauseNumber { value: slot.number })
     }
 
-    // Why a clause can't be put under a number, if so. No clause is wider than 64, and 256 clauses have at most 16,384 literals.
-    fn refusal(&self, number: ClauseNumber, clause: &Clause) -> Option<DatabaseFault>
-        ensures { result ≡ put_fault mask_limits (standing_in self.now) (record { number = number.value; lits = lits_of clause.now }) }
+    // How many literals the slots tell.
+    fn total(&self) -> usize
+        ensures { result ≡ literals (standing_in self.now) }
     {
-        if self.place(number).is_some() {
-            return Some(DatabaseFault::NumberTaken);
-        }
-        if !fits(clause) {
-            return Some(DatabaseFault::VariableBeyond);
-        }
-        if self.count == 256 {
-            return Some(DatabaseFault::ClausesFull);
-        }
-        None
+        let slots = self.slots.as_slice();
+        slots.iter().map(|slot| slot.width()).sum()
     }
 
-    // Adds a clause that nothing refuses: it is written behind the used slots and moved to its place.
-    fn insert(&mut self, number: ClauseNumber, clause: &Clause)
-        requires { put_fault mask_limits (standing_in self.old) (record { number = number.value; lits = lits_of clause.now }) ≡ None }
+    // The place where a clause goes, or why it can't be put. No clause is wider than 64, and 256 clauses have at most 16,384 literals.
+    fn vacancy(&self, number: ClauseNumber, clause: &Clause) -> Result<usize, DatabaseFault>
+        ensures fault { fault_of result ≡ put_fault mask_limits (standing_in self.now) (record { number = number.value; lits = lits_of clause.now }) }
+        ensures place { IfOk result (λ i. Err i ≡ place_of number.value (standing_in self.now)) }
+        ensures fits { OnOk result (within 64 (lits_of clause.now) ≡ true) }
+        ensures room { OnOk result (array_vec_len self.now.slots < 256) }
+    {
+        let Err(place) = self.place(number) else {
+            return Err(DatabaseFault::NumberTaken);
+        };
+        if !fits(clause) {
+            return Err(DatabaseFault::VariableBeyond);
+        }
+        if self.slots.is_full() {
+            return Err(DatabaseFault::ClausesFull);
+        }
+        Ok(place)
+    }
+
+    // Puts a clause that nothing refuses at its place.
+    fn insert(&mut self, place: usize, number: ClauseNumber, clause: &Clause)
+        requires here { Err place ≡ place_of number.value (standing_in self.old) }
+        requires fits { within 64 (lits_of clause.now) ≡ true }
+        requires room { array_vec_len self.old.slots < 256 }
         ensures { standing_in self.new ≡ inserted (record { number = number.value; lits = lits_of clause.now }) (standing_in self.old) }
     {
-        let at = self.place_above(number.value);
-        let count = self.count;
-        let total = self.total;
-        self.slots[count] = Slot::of(number.value, clause);
-        exchange(&mut self.slots, at, count, count + 1);
-        self.count = count + 1;
-        self.total = total + clause.len;
+        self.slots.insert(place, Slot::of(number.value, clause));
     }
 
-    // Takes the clause under a number away by moving it behind the used slots, and tells whether it stood.
-    fn delete(&mut self, number: ClauseNumber) -> bool
-        ensures stood { result ≡ stands number.value (standing_in self.old) }
-        ensures after { standing_in self.new ≡ (if result then without number.value (standing_in self.old) else standing_in self.old) }
+    // Takes the clause at a place away.
+    fn cut(&mut self, place: usize)
+        requires { place < length (standing_in self.old) }
+        ensures { standing_in self.new ≡ remove (standing_in self.old) place }
     {
-        let Some(at) = self.place(number) else {
-            return false;
-        };
-        let count = self.count;
-        let total = self.total;
-        let slot = self.slots[at];
-        exchange(&mut self.slots, at, at + 1, count);
-        self.count = count - 1;
-        self.total = total - slot.width();
-        true
+        self.slots.remove(place);
     }
 }

@@ -1,17 +1,15 @@
-ghost use Rattle.std.specs.Prelude.{◌≡◌, ◌≤◌, true, length, take};
-ghost use Rattle.words.specs.Standing.{ordered, literals};
+ghost use Rattle.std.specs.Prelude.{◌≡◌, ◌≤◌, true};
+ghost use Rattle.arrayvec.specs.ArrayVec.{array_vec_len};
+ghost use Rattle.words.specs.Standing.{ordered};
 ghost use Rattle.bitmask.specs.Slots.{entries};
 
 use crate::slot::Slot;
+use arrayvec::ArrayVec;
 
-// A clause database of 256 slots. The used ones are the first, by rising number; `total` is the count of their literals.
+// A clause database of up to 256 slots, by rising number.
 #[derive(Drop)]
 pub struct Bitmask {
-    pub(crate) slots: [Slot; 256],
-    pub(crate) count: usize,
-    pub(crate) total: usize,
-    ghost few: { count ≤ 256 },
-    ghost counted: { length (entries (take count slots)) ≡ count },
-    ghost kept: { ordered 64 64 0 (entries (take count slots)) ≡ true },
-    ghost summed: { literals (entries (take count slots)) ≡ total },
+    pub(crate) slots: ArrayVec<Slot, 256>,
+    ghost few: { array_vec_len slots ≤ 256 },
+    ghost kept: { ordered 64 64 0 (entries slots.items) ≡ true },
 }

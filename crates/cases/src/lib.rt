@@ -14,7 +14,7 @@ mod make;
 #[cfg(test)]
 mod model;
 #[cfg(test)]
-mod random;
+mod refusals;
 #[cfg(test)]
 mod restoring;
 #[cfg(test)]

@@ -3,70 +3,50 @@
 
 #![tactic(auto)]
 
-use anyhow::anyhow;
-use arena::{Arena, Record};
-use files::{Report, check_files};
-use reconstruction::{ReconstructionStack, SavedEntry, SavedLiteral};
-use report::{command_line, explain, print_refusal};
+use anyhow::bail;
+use files::check_files;
+use memory::{ArenaMemory, StackMemory};
+use programs::{Inputs, command_line, print_report};
 use std::fs;
-use std::io::Write;
-
-// What the memory of the reconstruction stack holds before it is used.
-const NO_ENTRY: SavedEntry = SavedEntry { pivot: 0, count: 0 };
-
-const NO_LITERAL: SavedLiteral = SavedLiteral { value: 0 };
-
-// Prints the counts and the first bytes of the buffer.
-fn print_report(rt: &HostRuntime, report: &Report, buffer: &[u8]) -> anyhow::Result<()> {
-    let accepted = report.counts.accepted;
-    let standing = report.counts.standing;
-    let empty = report.counts.empty;
-    println!(rt; "accepted standing empty")?;
-    println!(rt; "{accepted} {standing} {empty}")?;
-    if report.length <= buffer.len() {
-        rt.stdout().write_all(&buffer[0..report.length])?;
-    }
-    Ok(())
-}
 
 // Checks the two texts on memory made for it, and prints what came of it.
-fn check(rt: &HostRuntime, formula: &[u8], trace: &[u8], explained: bool) -> anyhow::Result<()> {
+fn check(rt: &HostRuntime, inputs: Inputs<'_>) -> anyhow::Result<()> {
     let heap = rt.alloc();
-    let mut literals = vec![in heap; 0i16; 16_384]?;
-    let mut records = vec![in heap; Record::EMPTY; 1_024]?;
-    let mut entries = vec![in heap; NO_ENTRY; 2_048]?;
-    let mut saved = vec![in heap; NO_LITERAL; 16_384]?;
-    let mut marks = vec![in heap; 0u8; 1_024]?;
+    let mut arena_memory = ArenaMemory::full_size(heap)?;
+    let mut stack_memory = StackMemory::full_size(heap)?;
     let mut buffer = vec![in heap; 0u8; 65_536]?;
-    let mut db = Arena::new(literals.as_mut_slice(), records.as_mut_slice());
-    let mut stack = ReconstructionStack::new(entries.as_mut_slice(), saved.as_mut_slice());
     match check_files(
-        formula,
-        trace,
-        &mut db,
-        &mut stack,
-        marks.as_mut_slice(),
+        inputs.formula,
+        inputs.trace,
+        &mut arena_memory.arena(),
+        &mut stack_memory.stack(),
+        &mut [0; 1_024],
         buffer.as_mut_slice(),
     ) {
         Ok(report) => print_report(rt, &report, buffer.as_slice()),
-        Err(fault) => {
-            print_refusal(rt, &fault)?;
-            if explained {
-                explain(rt, formula, trace, &fault)?;
-            }
-            Ok(())
-        }
+        Err(fault) => inputs.refuse(rt, fault),
     }
 }
 
+// Reads what the command line names, and checks it.
+// The program `commissioning` has a run of its own: the two differ in the files that they read, and closures for that would be longer.
 fn run(rt: &HostRuntime) -> anyhow::Result<()> {
     let given = command_line(rt)?;
-    if given.paths.len() != 0 && given.paths.len() != 2 {
-        return Err(anyhow!("usage: clausecheck_trace [--explain] [FORMULA TRACE]"));
-    }
-    let formula = fs::read(rt, given.path(0, "formula.cnf"))?;
-    let trace = fs::read(rt, given.path(1, "trace.txt"))?;
-    check(rt, formula.as_slice(), trace.as_slice(), given.explain)
+    let (formula, trace) = match given.paths.as_slice() {
+        [] => ("formula.cnf", "trace.txt"),
+        [formula, trace] => (formula.as_str(), trace.as_str()),
+        _ => bail!("usage: clausecheck_trace [--explain] [FORMULA TRACE]"),
+    };
+    let formula = fs::read(rt, formula)?;
+    let trace = fs::read(rt, trace)?;
+    check(
+        rt,
+        Inputs {
+            formula: formula.as_slice(),
+            trace: trace.as_slice(),
+            explained: given.explain,
+        },
+    )
 }
 
 fn main(rt: HostRuntime) -> anyhow::Result<()> {

@@ -3,56 +3,64 @@
 
 #![tactic(auto)]
 
+mod again;
 mod entries;
-mod memory;
 mod page;
 
-use anyhow::anyhow;
-use arena::{Arena, Record};
-use entries::{load, read_back, restore, send};
-use memory::{NO_ENTRY, NO_LITERAL, Spare};
+use again::Spare;
+use anyhow::bail;
+use memory::{ArenaMemory, StackMemory};
 use page::Page;
-use reconstruction::ReconstructionStack;
-use report::command_line;
+use programs::{Inputs, command_line};
 use std::fs;
 
 // Goes through the entries on a full-size arena and reconstruction stack, up to the first that does not hold.
-fn go_through(rt: &HostRuntime, page: &Page<'_>) -> anyhow::Result<()> {
+fn go_through<'a>(
+    rt: &'a HostRuntime,
+    inputs: Inputs<'a>,
+    position: &'a [u8],
+) -> anyhow::Result<()> {
+    let page = Page {
+        rt,
+        inputs,
+        position,
+    };
     let heap = rt.alloc();
-    let mut literals = vec![in heap; 0i16; 16_384]?;
-    let mut records = vec![in heap; Record::EMPTY; 1_024]?;
-    let mut entries = vec![in heap; NO_ENTRY; 2_048]?;
-    let mut saved = vec![in heap; NO_LITERAL; 16_384]?;
-    let mut db = Arena::new(literals.as_mut_slice(), records.as_mut_slice());
-    let mut stack = ReconstructionStack::new(entries.as_mut_slice(), saved.as_mut_slice());
-    let Some(loading) = load(rt, page, &mut db, &stack)? else {
+    let mut arena_memory = ArenaMemory::full_size(heap)?;
+    let mut stack_memory = StackMemory::full_size(heap)?;
+    let mut db = arena_memory.arena();
+    let mut stack = stack_memory.stack();
+    let Some(loading) = page.load(&mut db, &stack)? else {
         return Ok(());
     };
-    let Some(finished) = send(rt, page, loading, &mut db, &mut stack)? else {
+    let Some(finished) = page.send(loading, &mut db, &mut stack)? else {
         return Ok(());
     };
-    let mut spare = Spare::new(rt)?;
-    if read_back(rt, page, &mut spare, &finished, &db)? {
-        restore(rt, page, &mut spare, &finished, &db, &stack)?;
+    let mut spare = Spare::full_size(heap)?;
+    if page.read_back(&mut spare, &finished, &db)? {
+        page.restore(&mut spare, &finished, &db, &stack)?;
     }
     Ok(())
 }
 
+// Reads what the command line names, and goes through the entries.
+// The program `clausecheck_trace` has a run of its own: the two differ in the files that they read, and closures for that would be longer.
 fn run(rt: &HostRuntime) -> anyhow::Result<()> {
     let given = command_line(rt)?;
-    if given.paths.len() != 0 && given.paths.len() != 3 {
-        return Err(anyhow!("usage: commissioning [--explain] [FORMULA TRACE POSITION]"));
-    }
-    let formula = fs::read(rt, given.path(0, "formula.cnf"))?;
-    let trace = fs::read(rt, given.path(1, "trace.txt"))?;
-    let position = fs::read(rt, given.path(2, "position.txt"))?;
-    let page = Page {
+    let (formula, trace, position) = match given.paths.as_slice() {
+        [] => ("formula.cnf", "trace.txt", "position.txt"),
+        [formula, trace, position] => (formula.as_str(), trace.as_str(), position.as_str()),
+        _ => bail!("usage: commissioning [--explain] [FORMULA TRACE POSITION]"),
+    };
+    let formula = fs::read(rt, formula)?;
+    let trace = fs::read(rt, trace)?;
+    let position = fs::read(rt, position)?;
+    let inputs = Inputs {
         formula: formula.as_slice(),
         trace: trace.as_slice(),
-        position: position.as_slice(),
         explained: given.explain,
     };
-    go_through(rt, &page)
+    go_through(rt, inputs, position.as_slice())
 }
 
 fn main(rt: HostRuntime) -> anyhow::Result<()> {

@@ -1,58 +1,53 @@
-// The texts of one substation, and how its refusals are told.
-ghost use Rattle.std.specs.Prelude.{◌≡◌};
+// The texts of one substation, and how its entries are told.
+ghost use Rattle.std.specs.Prelude.{Some};
 ghost use Rattle.commissioning.specs.Compared.{verdict_words};
 
-use report::{explain, print_refusal, sentence};
-use std::io::Write;
+use programs::{Inputs, print_row};
+use report::{Row, sentence};
+use std::fmt;
 use words::{File, FileFault, LocatedFault, SessionFault};
 
-// The three texts, and whether refusals are to be explained.
-#[derive(Drop)]
-pub struct Page<'a> {
-    pub formula: &'a [u8],
-    pub trace: &'a [u8],
-    pub position: &'a [u8],
-    pub explained: bool,
+// Whether what was compared is the same.
+#[derive(Clone, Copy)]
+pub struct Verdict(pub bool);
+
+impl fmt::Display for Verdict {
+    ghost output = { λ v. Some (verdict_words v.0) };
+
+    fn fmt<W: fmt::Write>(&self, f: &mut fmt::Formatter<W>) -> fmt::Result {
+        f.write_str(if self.0 { "holds" } else { "does not hold" })
+    }
 }
 
-// Whether what was compared is the same, in words.
-pub fn verdict(same: bool) -> &'static str
-    ensures { result.now ≡ verdict_words same }
-{
-    if same { "holds" } else { "does not hold" }
+// Where the entries are told, and the texts of the substation.
+#[derive(Clone, Copy)]
+pub struct Page<'a> {
+    pub rt: &'a HostRuntime,
+    pub inputs: Inputs<'a>,
+    pub position: &'a [u8],
 }
 
 impl Page<'_> {
     // Tells that an entry does not hold since a file or the writing was refused.
-    pub fn refuse(
-        &self,
-        rt: &HostRuntime,
-        entry: &str,
-        fault: &LocatedFault,
-    ) -> anyhow::Result<()> {
-        println!(rt; "{entry}: does not hold")?;
-        print_refusal(rt, fault)?;
-        if self.explained {
-            explain(rt, self.formula, self.trace, fault)?;
-        }
-        Ok(())
+    pub fn refuse(&self, entry: &str, fault: LocatedFault) -> anyhow::Result<()> {
+        println!(self.rt; "{entry}: does not hold")?;
+        self.inputs.refuse(self.rt, fault)
     }
 
     // The same of the switch position, which restoring refuses.
-    pub fn refuse_position(&self, rt: &HostRuntime, fault: SessionFault) -> anyhow::Result<()> {
-        let number = fault.refusal().number;
-        println!(rt; "D position: does not hold")?;
-        println!(rt; "file line refusal")?;
-        println!(rt; "position 0 {number}")?;
-        if self.explained {
-            let located = LocatedFault {
-                file: File::Write,
+    pub fn refuse_position(&self, fault: SessionFault) -> anyhow::Result<()> {
+        println!(self.rt; "D position: does not hold")?;
+        print_row(
+            self.rt,
+            &Row {
+                read: "position",
                 line: 0,
-                cause: FileFault::Session(fault),
-            };
-            rt.stderr()
-                .write_all(sentence(rt.alloc(), &located)?.as_bytes())?;
-            rt.stderr().write_all(b"\n")?;
+                number: fault.refusal().number,
+            },
+        )?;
+        if self.inputs.explained {
+            let located = FileFault::from(fault).at(File::Write, 0);
+            self.rt.eprintln(sentence(self.rt.alloc(), &located)?)?;
         }
         Ok(())
     }

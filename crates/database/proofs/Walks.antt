@@ -1,5 +1,5 @@
 -- Walks over a database by its next question: what is still to come after each step.
-use Rattle.std.proofs.Common.{◌≡◌, ℕ, ◌<◌, ◌≤◌, true, List, [], ◌∷◌, ℤ, Some, None, Option, refl, ap, ⊎_elim, arith}
+use Rattle.std.proofs.Common.{◌≡◌, ℕ, ◌<◌, ◌≤◌, true, List, [], ◌∷◌, length, suc, ℤ, Some, None, Option, refl, sym, ◌∙◌, ap, ⊎_elim, arith}
 use Rattle.std.proofs.lemmas.Bool.{cases_lt}
 use Rattle.std.proofs.lemmas.Bool.Decides.{nat_tests}
 use Rattle.words.specs.Standing.{Entry, ordered, under, next_above}
@@ -65,3 +65,27 @@ next_step n w j k m (x ∷ s) o e =
           cc;
     })
     (cases_lt k x.number)
+
+-- the entry that a walk gives next, and what is still to come behind it
+pub next_given :
+    (n w k m : ℕ) (z : List ℤ) (s : List Entry) → ordered n w 0 s ≡ true → Some m ≡ next_above k s → Some z ≡ under m s → above k s ≡ record { number = m; lits = z } ∷ above m s
+next_given n w k m z s o e u =
+    let r = next_step n w 0 k m s o (sym e) in
+    let q : ◌≡◌ {A = Option (List ℤ)} (Some r.lits) (Some z) = sym r.found ∙ sym u in
+    let t : r.lits ≡ z = cc in
+    r.split ∙ ap (λ (x : List ℤ). record { number = m; lits = x } ∷ above m s) t
+
+-- a number that a walk gives is above the one before
+pub next_rises : (n w k m : ℕ) (s : List Entry) → ordered n w 0 s ≡ true → Some m ≡ next_above k s → k < m
+next_rises n w k m s o e = (next_step n w 0 k m s o (sym e)).rises
+
+-- a number that a walk gives stands
+pub next_stands : (n w k m : ℕ) (s : List Entry) → ordered n w 0 s ≡ true → Some m ≡ next_above k s → None ≡ under m s → ⊥
+next_stands n w k m s o e u =
+    let r = next_step n w 0 k m s o (sym e) in
+    let q : ◌≡◌ {A = Option (List ℤ)} (Some r.lits) None = sym r.found ∙ sym u in
+    cc
+
+-- a list is longer than what is behind its first
+pub longer : (e : Entry) (s t : List Entry) → s ≡ e ∷ t → length t < length s
+longer e s t q = let l : length s ≡ suc (length t) = ap length q in omega (arith, l)

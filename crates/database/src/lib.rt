@@ -10,6 +10,9 @@ ghost use Rattle.words.specs.Checks.{check, fault_of, unless};
 ghost use Rattle.words.specs.Meanings.{lits_of};
 ghost use Rattle.words.specs.Standing.{Entry, Lawful, stands, under, next_above, literals, inserted, without, put_fault};
 
+mod walking;
+
+pub use walking::{Numbered, Walk, standing, standing_above};
 use words::{Clause, ClauseNumber, DatabaseFault, Limits};
 
 // A set of standing clauses, each under its own number, and four limits that never change.
@@ -20,10 +23,6 @@ pub trait ClauseDatabase {
 
     // the limits V, W, M and L
     ghost limited: { Self → Limits };
-
-    // Computes nothing: its promise is what every database keeps of its meaning.
-    fn lawful(&self)
-        ensures { Lawful (limited self.now) (standing self.now) };
 
     // The limits.
     fn limits(&self) -> Limits
@@ -56,4 +55,7 @@ pub trait ClauseDatabase {
         ensures fault { fault_of result ≡ check (stands number.value (standing self.old)) (Absent number.value) }
         ensures after { standing self.new ≡ unless (fault_of result) (without number.value (standing self.old)) (standing self.old) }
         ensures limits { limited self.new ≡ limited self.old };
+
+    // what every database keeps of its meaning
+    ghost lawful: { (s : Self) → Lawful (limited s) (standing s) };
 }

@@ -2,15 +2,11 @@
 use Rattle.std.proofs.Common.{◌≡◌, ℕ, ◌<◌, ◌≤◌, Bool, true, false, cond, ◌||◌, leb, List, [], ◌∷◌, length, ℤ, Some, None, Option, sym, refl, ap, ◌∙◌, ⊎_elim, arith}
 use Rattle.std.proofs.lemmas.Bool.{cases_Bool}
 use Rattle.std.proofs.lemmas.Bool.Decides.{nat_tests}
-use Rattle.words.specs.Clauses.{has, opposed, equal, resolvent}
+use Rattle.words.specs.Clauses.{opposed, equal, resolvent}
 use Rattle.words.specs.Standing.{Entry, ordered}
-use Rattle.database.specs.Walks.{above}
-use Rattle.database.proofs.Walks.{above_start}
-use Rattle.rules.specs.Lines.{side, some_equal, covered, uncovered_with, first_uncovered}
+use Rattle.rules.specs.Lines.{some_equal, covered, uncovered_with, first_uncovered}
 use Rattle.acceptance.proofs.Sets.{equal_is}
 use Rattle.acceptance.proofs.Pairs.{pairs_on, pairs_at}
-use Rattle.elimination.specs.Finding.{first_passing}
-use Rattle.elimination.proofs.Found.{Found, found_above, picked, picked_none}
 
 -- ── One pair ──
 
@@ -58,29 +54,7 @@ module _ (v : ℤ) (s : List Entry) (a b : List ℤ) where
       sym (ap (λ x. x || some_equal (resolvent v a b) s) o ∙ u))
       (cases_Bool (leb (length (resolvent v a b)) 64))
 
--- ── The walks over the two sides ──
-
-side_picked : (z : ℤ) (s : List Entry) → side z s ≡ picked (has z) s
-side_picked z [] = refl
-side_picked z (e ∷ es) = ap (λ xs. cond (has z e.lits) (e ∷ xs) xs) (side_picked z es)
-
--- the next clause of a side, at the literal y as the code holds it
-module _ (n w : ℕ) (z y : ℤ) (q : y ≡ z) (k : ℕ) (s : List Entry) (o : ordered n w 0 s ≡ true) where
-  module _ (e : Entry) (h : ◌≡◌ {A = Option Entry} (Some e) (first_passing (has y) (above k s))) where
-    found : Found (has z) k s e
-    found = found_above n w 0 (has z) k s e o (ap (λ x. first_passing (has x) (above k s)) (sym q) ∙ sym h)
-
-    pub side_rises : k < e.number
-    side_rises = found.rises
-
-    pub side_next : side z (above k s) ≡ e ∷ side z (above e.number s)
-    side_next = side_picked z (above k s) ∙ found.splits ∙ ap (λ xs. e ∷ xs) (sym (side_picked z (above e.number s)))
-
-  pub side_done : ◌≡◌ {A = Option Entry} None (first_passing (has y) (above k s)) → side z (above k s) ≡ []
-  side_done h = side_picked z (above k s) ∙ picked_none (has z) (above k s) (ap (λ x. first_passing (has x) (above k s)) (sym q) ∙ sym h)
-
-pub side_start : (n w : ℕ) (z : ℤ) (s : List Entry) → ordered n w 0 s ≡ true → side z (above 0 s) ≡ side z s
-side_start n w z s o = ap (side z) (above_start n w s o)
+-- ── The pairs ──
 
 -- the partners of a clause: the next is covered, or not, or there is none
 module _ (v : ℤ) (s : List Entry) (a : List ℤ) (ns rest all : List Entry) (inv : uncovered_with v s a ns ≡ uncovered_with v s a all) where

@@ -1,4 +1,3 @@
-pub mod Found
 pub mod Signed
 pub mod Covered
 pub mod Eliminated

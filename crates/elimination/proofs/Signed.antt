@@ -1,77 +1,112 @@
 -- Signatures of clauses, and the table of those that stand.
-use Rattle.std.proofs.Common.{◌≡◌, ℕ, zero, suc, ◌+◌, ◌*◌, ◌%◌, ◌^◌, ◌<◌, ◌≤◌, Bool, true, false, cond, ◌||◌, eqb, List, [], ◌∷◌, ◌++◌, map, length, get_or, take, drop, set, ℤ, pos, Some, None, Decides, Option, sym, refl, ap, ◌∙◌, ⊎_elim, arith}
-use Rattle.std.proofs.lemmas.List.{drop_more, drop_all, length-drop, length-take, get_or-take, get_or-map, take_more_set, map_more, take-append-drop}
+use Rattle.std.proofs.Common.{◌≡◌, ℕ, zero, suc, ◌+◌, ◌*◌, ◌%◌, ◌^◌, ◌<◌, ◌≤◌, Bool, true, false, cond, ◌||◌, eqb, List, [], ◌∷◌, ◌++◌, map, length, get_or, take, drop, ℤ, Some, None, Decides, Option, sym, refl, ap, ◌∙◌, ⊎_elim, arith}
+use Rattle.std.proofs.lemmas.List.{drop_more, drop_all, length-append, length-drop, length-map, length-take, get_or-take, get_or-map, map_more, take-append-drop}
 use Rattle.std.proofs.lemmas.Bool.{cases_Bool}
-use Rattle.std.proofs.lemmas.Bool.Decides.{nat_tests}
+use Rattle.std.proofs.lemmas.Bool.Decides.{nat_tests, Decides-int_eq}
+use Rattle.std.proofs.lemmas.Slice.Eq.{slice_eq-Decides}
+use Rattle.std.specs.Cmp.Lexicographic.{pointwise}
+use Rattle.std.specs.Ordering.{int_eq}
+use Rattle.std.specs.List.{fold, list_any}
+use Rattle.std.specs.Option.{MatchOption, option_map}
+use Rattle.words.specs.declared.clause.Clause.{Clause}
 use Rattle.words.specs.Clauses.{equal}
 use Rattle.words.specs.Marks.{mark_place}
-use Rattle.words.specs.Standing.{Entry, ordered, under, next_above}
+use Rattle.words.specs.Meanings.{lits_of}
+use Rattle.words.specs.Standing.{Entry, ordered, under}
 use Rattle.database.specs.Walks.{above}
-use Rattle.database.proofs.Walks.{above_end, next_step}
+use Rattle.database.proofs.Walks.{above_start, above_low}
 use Rattle.rules.specs.Lines.{some_equal}
 use Rattle.acceptance.proofs.Sets.{equal_is, equal_refl, same_tests}
 use Rattle.elimination.specs.declared.signatures.SignedNumber.{SignedNumber}
-use Rattle.elimination.specs.Signing.{signature_from, signed_under, signed_of, equal_to}
-
--- one literal more counts
-pub sign_step : (xs : List ℤ) (i : ℕ) → i < length xs → (y : ℤ) → y ≡ get_or xs i (pos 0) → (k : ℕ) → k ≡ mark_place 512 y → (h : ℕ) →
-    signature_from h (drop i xs) ≡ signature_from 1 xs → signature_from ((h * 1000003 % 2 ^ 64 + k) % 2 ^ 64) (drop (i + 1) xs) ≡ signature_from 1 xs
-sign_step xs i l y q k ek h inv =
-    ap (λ p. signature_from ((h * 1000003 % 2 ^ 64 + p) % 2 ^ 64) (drop (i + 1) xs)) (ek ∙ ap (mark_place 512) q) ∙
-    ap (signature_from h) (sym (drop_more xs i (pos 0) l)) ∙ inv
-
--- past the last literal
-pub sign_end : (xs all : List ℤ) (i h : ℕ) → length xs ≤ i → xs ≡ all → signature_from h (drop i xs) ≡ signature_from 1 xs → h ≡ signature_from 1 all
-sign_end xs all i h l a inv = ap (signature_from h) (sym (drop_all i xs l)) ∙ inv ∙ ap (signature_from 1) a
+use Rattle.elimination.specs.Signing.{signature_from, signed_of, equal_to}
 
 -- a test that decides whether two lists are equal
-pub equal_decided : (r : Bool) (a b : List ℤ) → Decides r (a ≡ b) → r ≡ equal a b
+equal_decided : (r : Bool) (a b : List ℤ) → Decides r (a ≡ b) → r ≡ equal a b
 equal_decided r a b d = same_tests r (equal a b) ((λ t. ap (equal a) (sym (d.0 t)) ∙ equal_refl a), λ t. d.1 (equal_is a b t))
+
+-- what `==` tells of two clauses
+pub equal_told : (r : Bool) (a b : List ℤ) → r ≡ pointwise int_eq a b → r ≡ equal a b
+equal_told r a b e = equal_decided r a b (slice_eq-Decides Decides-int_eq a b r e)
+
+-- whether there is a clause and it is equal
+pub equal_option : (z : List ℤ) (o : Option Clause) (u : Option (List ℤ)) (r : Bool) (Q : Clause → Type 0) → option_map lits_of o ≡ u → MatchOption o (r ≡ false) Q →
+    ((x : Clause) → Q x → r ≡ equal (lits_of x) z) → r ≡ equal_to z u
+equal_option z None u r Q e m t = m ∙ ap (equal_to z) e
+equal_option z (Some x) u r Q e m t = t x m ∙ ap (equal_to z) e
+
+-- whether an equal clause is among some
+pub equal_among : (c : List ℤ) (s : List Entry) → list_any (λ (e : Entry). equal e.lits c) s ≡ some_equal c s
+equal_among c [] = refl
+equal_among c (e ∷ s) = ap (λ b. equal e.lits c || b) (equal_among c s)
+
+-- the signature, as a fold
+pub signature_folded : (h : ℕ) (xs : List ℤ) → fold (λ (k : ℕ) (x : ℤ). (k * 1000003 % 2 ^ 64 + mark_place 512 x) % 2 ^ 64) h xs ≡ signature_from h xs
+signature_folded h [] = refl
+signature_folded h (x ∷ xs) = signature_folded ((h * 1000003 % 2 ^ 64 + mark_place 512 x) % 2 ^ 64) xs
 
 -- ── Walking on ──
 
 equal_under : (c d : List ℤ) (o : Option (List ℤ)) → o ≡ Some d → equal_to c o ≡ equal d c
 equal_under c d o e = ap (equal_to c) e
 
-module _ (n w : ℕ) (s : List Entry) (o : ordered n w 0 s ≡ true) (k m : ℕ) (e : next_above k s ≡ Some m) where
-  -- the next clause is compared, and then those after it
-  walk_compares : (c : List ℤ) → some_equal c (above k s) ≡ (equal_to c (under m s) || some_equal c (above m s))
-  walk_compares c =
-      let p = next_step n w 0 k m s o e in
-      ap (some_equal c) p.split ∙ ap (λ b. b || some_equal c (above m s)) (sym (equal_under c p.lits _ p.found))
-
-  pub walk_hit : (c : List ℤ) (f : Bool) → equal_to c (under m s) ≡ true → some_equal c (above k s) ≡ f → true ≡ f
-  walk_hit c f h q = let t = walk_compares c in grind arith
-
-  pub walk_miss : (c : List ℤ) (f : Bool) → equal_to c (under m s) ≡ false → some_equal c (above k s) ≡ f → some_equal c (above m s) ≡ f
-  walk_miss c f h q = let t = walk_compares c in grind arith
-
-pub walk_done : (c : List ℤ) (k : ℕ) (s : List Entry) (f : Bool) → next_above k s ≡ None → some_equal c (above k s) ≡ f → false ≡ f
-walk_done c k s f e q = sym (ap (some_equal c) (above_end k s e)) ∙ q
-
 -- ── The table ──
 
-module _ (n w : ℕ) (s : List Entry) (o : ordered n w 0 s ≡ true) (k m : ℕ) (e : next_above k s ≡ Some m) where
-  -- one clause more in the table
-  pub table_step : (rs : List SignedNumber) (len : ℕ) → len < length rs → take len rs ≡ map signed_of (take len s) → above k s ≡ drop len s →
-      (r : SignedNumber) → r ≡ signed_under m (under m s) →
-      (len + 1 ≤ length s) × (take (len + 1) (set rs len r) ≡ map signed_of (take (len + 1) s)) × (above m s ≡ drop (len + 1) s)
-  table_step rs len h l b r q =
-      let p = next_step n w 0 k m s o e in
-      let x : Entry = record { number = m; lits = p.lits } in
-      let t : drop len s ≡ x ∷ above m s = sym b ∙ p.split in
-      let tl = ap length t in
-      let ld = length-drop len s in
-      let lt : len < length s = omega arith in
-      let d = drop_more s len x lt in
-      let g : get_or s len x ≡ x = cc in
-      let a : above m s ≡ drop (len + 1) s = cc in
-      let rq : r ≡ signed_of x = q ∙ ap (signed_under m) p.found in (
-        omega arith,
-        take_more_set rs len r h ∙ ap (λ ys. ys ++ r ∷ []) l ∙ ap (λ y. map signed_of (take len s) ++ y ∷ []) (rq ∙ ap signed_of (sym g)) ∙
-            sym (map_more signed_of s len x lt),
-        a,
-      )
+-- the clauses behind the one at a place are those above its number
+above_at : (n w k : ℕ) (s : List Entry) (i : ℕ) (x : Entry) (r : List Entry) → ordered n w k s ≡ true → drop i s ≡ x ∷ r → (k < x.number) × (above x.number s ≡ r)
+above_at n w k [] zero x r o q = absurd (let l = ap length q in omega arith)
+above_at n w k [] (suc i) x r o q = absurd (let l = ap length q in omega arith)
+above_at n w k (y ∷ s) zero x r o q =
+    let o1 : ordered n w y.number s ≡ true = grind (arith, nat_tests) in
+    let i1 : y ≡ x = cc in
+    let i2 : s ≡ r = cc in
+    let low = above_low n w y.number y.number s o1 (omega arith) in
+    let a1 : above y.number (y ∷ s) ≡ above y.number s = grind (arith, nat_tests) in
+    let up : k < y.number = grind (arith, nat_tests) in
+    let j = ap (λ z. z.number) i1 in
+    (omega arith, ap (λ z. above z.number (y ∷ s)) (sym i1) ∙ a1 ∙ low ∙ i2)
+above_at n w k (y ∷ s) (suc i) x r o q =
+    let o1 : ordered n w y.number s ≡ true = grind (arith, nat_tests) in
+    let up : k < y.number = grind (arith, nat_tests) in
+    let ih = above_at n w y.number s i x r o1 q in
+    let over = ih.0 in
+    let a1 : above x.number (y ∷ s) ≡ above x.number s = grind (arith, nat_tests) in
+    (omega arith, a1 ∙ ih.1)
+
+-- a table of the first clauses, and the number of the last
+pub record Table (rs : List SignedNumber) (last : ℕ) (s : List Entry) : Type 0 where
+  pub listed : rs ≡ map signed_of (take (length rs) s)
+  pub beyond : above last s ≡ drop (length rs) s
+
+-- at first it is empty, and all is to come
+pub table_start : (n w : ℕ) (s left : List Entry) (rs : List SignedNumber) → ordered n w 0 s ≡ true → rs ≡ [] → left ≡ s → Table rs 0 s × (left ≡ drop (length rs) s)
+table_start n w s left rs o e a =
+    let b = ap (λ r. drop (length r) s) e in (
+      record { listed = e ∙ sym (ap (λ r. map signed_of (take (length r) s)) e); beyond = above_start n w s o ∙ sym b },
+      a ∙ sym b,
+    )
+
+-- the next clause x goes into it
+pub table_step : (n w : ℕ) (s left rest : List Entry) (rs after : List SignedNumber) (last : ℕ) (x : Entry) → ordered n w 0 s ≡ true → Table rs last s → left ≡ drop (length rs) s →
+    left ≡ x ∷ rest → after ≡ rs ++ signed_of x ∷ [] → Table after x.number s × (rest ≡ drop (length after) s)
+table_step n w s left rest rs after last x o t l q a =
+    let d : drop (length rs) s ≡ x ∷ rest = sym l ∙ q in
+    let dl = ap length d in
+    let ld = length-drop (length rs) s in
+    let lt : length rs < length s = omega arith in
+    let m = drop_more s (length rs) x lt in
+    let g : get_or s (length rs) x ≡ x = cc in
+    let r : rest ≡ drop (length rs + 1) s = cc in
+    let n1 : length after ≡ length rs + 1 = ap length a ∙ length-append rs (signed_of x ∷ []) in
+    let up = above_at n w 0 s (length rs) x rest o d in
+    let r1 : rest ≡ drop (length after) s = r ∙ ap (λ k. drop k s) (sym n1) in (
+      record {
+        listed =
+            a ∙ ap (λ ys. ys ++ signed_of x ∷ []) t.listed ∙ ap (λ y. map signed_of (take (length rs) s) ++ signed_of y ∷ []) (sym g) ∙ sym (map_more signed_of s (length rs) x lt) ∙
+            ap (λ k. map signed_of (take k s)) (sym n1);
+        beyond = up.1 ∙ r1;
+      },
+      r1,
+    )
 
 -- equal to one of the table, or to one beyond it
 some_equal_append : (c : List ℤ) (a b : List Entry) → some_equal c (a ++ b) ≡ (some_equal c a || some_equal c b)
@@ -110,41 +145,45 @@ under_at n w k (x ∷ s) (suc i) d o h =
     let q : eqb x.number (get_or s i d).number ≡ false = grind (arith, nat_tests) in
     ap (λ b. cond b (Some x.lits) (under (get_or s i d).number s)) q ∙ ih
 
-module _ (n w : ℕ) (s : List Entry) (o : ordered n w 0 s ≡ true) (rs : List SignedNumber) (len : ℕ) (reached : len ≤ length s) (l : take len rs ≡ map signed_of (take len s)) (i : ℕ) (h : i < len) (d : Entry) (b : SignedNumber) where
-  shorter : i < length (take len s)
-  shorter = simp length-take (omega arith)
+module _ (n w : ℕ) (s : List Entry) (o : ordered n w 0 s ≡ true) (rs items : List SignedNumber) (v : rs ≡ items) (l : items ≡ map signed_of (take (length items) s)) (i : ℕ) (h : i < length rs) (d : Entry) (b : SignedNumber) where
+  shorter : i < length (take (length items) s)
+  shorter = let e : length rs ≡ length (take (length items) s) = ap length v ∙ ap length l ∙ length-map (take (length items) s) signed_of in omega arith
+
+  inside : i < length items
+  inside = let e = ap length v in omega arith
+
+  reached : i < length s
+  reached = let a = shorter in let t = length-take (length items) s in omega arith
 
   -- the record at a place is that of the entry there
   at_place : get_or rs i b ≡ signed_of (get_or s i d)
-  at_place =
-      sym (get_or-take len rs i b h) ∙ ap (λ ys. get_or ys i b) l ∙ get_or-map signed_of (take len s) i d b shorter ∙
-      ap signed_of (get_or-take len s i d h)
+  at_place = ap (λ ys. get_or ys i b) (v ∙ l) ∙ get_or-map signed_of (take (length items) s) i d b shorter ∙ ap signed_of (get_or-take (length items) s i d inside)
 
   pub record_number : (1 ≤ (get_or rs i b).number) × ((get_or rs i b).number ≤ 1000000)
   record_number =
-      let p = ordered_at n w 0 s i d o (omega arith) in
+      let p = ordered_at n w 0 s i d o reached in
       let q = ap (λ r. r.number) at_place in
       let p0 = p.0 in
       let p1 = p.1 in
       (omega arith, omega arith)
 
   -- the entry there is compared, and then those after it
-  record_compares : (c : List ℤ) → some_equal c (drop i (take len s)) ≡ (equal_to c (under (get_or rs i b).number s) || some_equal c (drop (i + 1) (take len s)))
+  record_compares : (c : List ℤ) → some_equal c (drop i (take (length items) s)) ≡ (equal_to c (under (get_or rs i b).number s) || some_equal c (drop (i + 1) (take (length items) s)))
   record_compares c =
-      ap (some_equal c) (drop_more (take len s) i d shorter) ∙ ap (λ x. equal x.lits c || some_equal c (drop (i + 1) (take len s))) (get_or-take len s i d h) ∙
-      ap (λ t. t || some_equal c (drop (i + 1) (take len s)))
-      (sym (ap (λ r. equal_to c (under r.number s)) at_place ∙ equal_under c _ _ (under_at n w 0 s i d o (omega arith))))
+      ap (some_equal c) (drop_more (take (length items) s) i d shorter) ∙ ap (λ x. equal x.lits c || some_equal c (drop (i + 1) (take (length items) s))) (get_or-take (length items) s i d inside) ∙
+      ap (λ t. t || some_equal c (drop (i + 1) (take (length items) s)))
+      (sym (ap (λ r. equal_to c (under r.number s)) at_place ∙ equal_under c _ _ (under_at n w 0 s i d o reached)))
 
-  pub record_hit : (c : List ℤ) (f : Bool) → equal_to c (under (get_or rs i b).number s) ≡ true → some_equal c (drop i (take len s)) ≡ f → true ≡ f
+  pub record_hit : (c : List ℤ) (f : Bool) → equal_to c (under (get_or rs i b).number s) ≡ true → some_equal c (drop i (take (length items) s)) ≡ f → true ≡ f
   record_hit c f t q = let p = record_compares c in grind arith
 
-  pub record_miss : (c : List ℤ) (f : Bool) → equal_to c (under (get_or rs i b).number s) ≡ false → some_equal c (drop i (take len s)) ≡ f → some_equal c (drop (i + 1) (take len s)) ≡ f
+  pub record_miss : (c : List ℤ) (f : Bool) → equal_to c (under (get_or rs i b).number s) ≡ false → some_equal c (drop i (take (length items) s)) ≡ f → some_equal c (drop (i + 1) (take (length items) s)) ≡ f
   record_miss c f t q = let p = record_compares c in grind arith
 
   -- clauses of different signatures are not equal
-  pub record_apart : (c : List ℤ) (f : Bool) (g : ℕ) → g ≡ signature_from 1 c → ((get_or rs i b).signature ≡ g → ⊥) → some_equal c (drop i (take len s)) ≡ f → some_equal c (drop (i + 1) (take len s)) ≡ f
+  pub record_apart : (c : List ℤ) (f : Bool) (g : ℕ) → g ≡ signature_from 1 c → ((get_or rs i b).signature ≡ g → ⊥) → some_equal c (drop i (take (length items) s)) ≡ f → some_equal c (drop (i + 1) (take (length items) s)) ≡ f
   record_apart c f g e ne q =
-      let u : equal_to c (under (get_or rs i b).number s) ≡ equal (get_or s i d).lits c = ap (λ r. equal_to c (under r.number s)) at_place ∙ equal_under c _ _ (under_at n w 0 s i d o (omega arith)) in
+      let u : equal_to c (under (get_or rs i b).number s) ≡ equal (get_or s i d).lits c = ap (λ r. equal_to c (under r.number s)) at_place ∙ equal_under c _ _ (under_at n w 0 s i d o reached) in
       ⊎_elim
       (λ (t : equal (get_or s i d).lits c ≡ true). absurd (ne (ap (λ r. r.signature) at_place ∙ ap (signature_from 1) (equal_is (get_or s i d).lits c t) ∙ sym e)))
       (λ (t : equal (get_or s i d).lits c ≡ false). record_miss c f (u ∙ t) q)

@@ -1,48 +1,59 @@
 // E, eliminated: every clause of a variable is saved and taken away, where every resolvent on it holds an opposite pair or stands.
-ghost use Rattle.std.specs.Prelude.{◌≡◌, true, ◌++◌, length, neg_ℤ, if◌then◌else◌, None};
+ghost use Rattle.std.specs.Prelude.{◌≡◌, ◌++◌, length, replicate, None};
+ghost use Rattle.std.specs.Option.{option_map};
 ghost use Rattle.words.specs.Checks.{fault_of, unless};
-ghost use Rattle.words.specs.Clauses.{has};
 ghost use Rattle.words.specs.Meanings.{lits_of};
+ghost use Rattle.words.specs.Standing.{under};
 ghost use Rattle.rules.specs.Restoring.{saved_literals, save_fault};
 ghost use Rattle.rules.specs.Lines.{eliminate_fault, eliminated, free_of};
 ghost use Rattle.reconstruction.specs.Meanings.{saved, room_of};
-ghost use Rattle.marking.specs.Marking.{clean_marks};
 ghost use Rattle.elimination.specs.Eliminating.{e_line, elimination_fault};
+ghost use Rattle.elimination.specs.Finding.{held_of, under_of_variable};
 
 use crate::covering::first_uncovered;
-use crate::holding::Holding;
 use crate::signatures::SignatureTable;
-use database::ClauseDatabase;
+use database::{ClauseDatabase, standing};
 use marking::clean;
 use reconstruction::ReconstructionStack;
-use words::{Clause, Literal, SessionFault, StackFault};
+use words::{Clause, ClauseNumber, Literal, SessionFault, StackFault};
 
-// How many standing clauses are of the pivot's variable, and how many literals they have together.
-fn totals<D: ClauseDatabase>(db: &D, pivot: Literal) -> (usize, usize)
-    ensures clauses { result.0 ≡ length (eliminated pivot.value (D.standing db.now)) }
-    ensures literals { result.1 ≡ saved_literals (eliminated pivot.value (D.standing db.now)) }
-{
-    db.lawful();
-    let holding = Holding::Either(pivot);
-    let mut at = 0;
-    let mut clauses = 0;
-    let mut literals = 0;
-    while let Some(found) = holding.next(db, at) {
-        clauses += 1;
-        literals += found.clause.len;
-        at = found.number.value;
-    }
-    (clauses, literals)
+// What some clauses need of the reconstruction stack: their number, and that of their literals together.
+#[derive(Clone, Copy)]
+struct Needs {
+    clauses: usize,
+    literals: usize,
 }
 
-// The literal of the pivot's variable that a clause of it holds.
-fn held(clause: &Clause, pivot: Literal) -> Literal
-    ensures { result.value ≡ (if has pivot.value (lits_of clause.now) then pivot.value else neg_ℤ pivot.value) }
+// The literal of the pivot's variable that a clause holds, or none.
+fn held(clause: &Clause, pivot: Literal) -> Option<Literal>
+    ensures { option_map (λ l. l.value) result ≡ held_of pivot.value (lits_of clause.now) }
 {
+    let opposite = pivot.negated();
     if clause.has(pivot) {
-        return pivot;
+        return Some(pivot);
     }
-    pivot.negated()
+    if clause.has(opposite) {
+        return Some(opposite);
+    }
+    None
+}
+
+// What the standing clauses of the pivot's variable need. One walk for both totals: two chains would read each clause twice.
+fn totals<D: ClauseDatabase>(db: &D, pivot: Literal) -> Needs
+    ensures clauses { result.clauses ≡ length (eliminated pivot.value (D.standing db.now)) }
+    ensures literals { result.literals ≡ saved_literals (eliminated pivot.value (D.standing db.now)) }
+{
+    let mut needs = Needs {
+        clauses: 0,
+        literals: 0,
+    };
+    for entry in standing(db) {
+        if held(&entry.clause, pivot).is_some() {
+            needs.clauses += 1;
+            needs.literals += entry.clause.len;
+        }
+    }
+    needs
 }
 
 // Saves every standing clause of the pivot's variable, by rising number, where all of them fit.
@@ -51,13 +62,20 @@ fn save_all<D: ClauseDatabase>(db: &D, stack: &mut ReconstructionStack<'_>, pivo
     ensures saved { saved stack.new ≡ saved stack.old ++ eliminated pivot.value (D.standing db.now) }
     ensures room { room_of stack.new ≡ room_of stack.old }
 {
-    db.lawful();
-    let holding = Holding::Either(pivot);
-    let mut at = 0;
-    while let Some(found) = holding.next(db, at) {
-        let _ = stack.save(held(&found.clause, pivot), &found.clause);
-        at = found.number.value;
+    for entry in standing(db) {
+        if let Some(literal) = held(&entry.clause, pivot) {
+            // All of them fit, so nothing is refused.
+            let _ = stack.save(literal, &entry.clause);
+        }
     }
+}
+
+// Whether the clause under a number is of the pivot's variable.
+fn of_variable_at<D: ClauseDatabase>(db: &D, number: ClauseNumber, pivot: Literal) -> bool
+    ensures { result ≡ under_of_variable pivot.value (under number.value (D.standing db.now)) }
+{
+    db.clause(number)
+        .is_some_and(|clause| held(&clause, pivot).is_some())
 }
 
 // Takes every standing clause of the pivot's variable away.
@@ -65,12 +83,14 @@ fn remove_all<D: ClauseDatabase>(db: &mut D, pivot: Literal)
     ensures after { D.standing db.new ≡ free_of pivot.value (D.standing db.old) }
     ensures limits { D.limited db.new ≡ D.limited db.old }
 {
-    db.lawful();
-    let holding = Holding::Either(pivot);
     let mut at = 0;
-    while let Some(found) = holding.next(db, at) {
-        let _ = db.remove(found.number);
-        at = found.number.value;
+    // By the next number, since what `standing` goes through must not change meanwhile.
+    while let Some(number) = db.next(at) {
+        if of_variable_at(db, number, pivot) {
+            // It stands, so nothing is refused.
+            let _ = db.remove(number);
+        }
+        at = number.value;
     }
 }
 
@@ -78,12 +98,12 @@ fn remove_all<D: ClauseDatabase>(db: &mut D, pivot: Literal)
 // no other line pays for that memory.
 #[inline(never)]
 fn judge<D: ClauseDatabase>(db: &D, bytes: &mut [u8], pivot: Literal) -> Result<(), SessionFault>
-    requires { clean_marks bytes.old ≡ true }
+    requires { bytes.old ≡ replicate 1024 0 }
     ensures judged { fault_of result ≡ eliminate_fault (D.standing db.now) (e_line pivot.value) }
-    ensures marks { bytes.new ≡ bytes.old }
+    ensures marks { bytes.new ≡ replicate 1024 0 }
 {
     let table = SignatureTable::new(db);
-    match first_uncovered(db, &table, bytes, pivot) {
+    match first_uncovered(&table, bytes, pivot) {
         Some((p, n)) => Err(SessionFault::NotCovered(p, n)),
         None => Ok(()),
     }
@@ -99,8 +119,8 @@ fn save_clauses<D: ClauseDatabase>(
     ensures after { saved stack.new ≡ unless (fault_of result) (saved stack.old ++ eliminated pivot.value (D.standing db.now)) (saved stack.old) }
     ensures room { room_of stack.new ≡ room_of stack.old }
 {
-    let (clauses, literals) = totals(db, pivot);
-    stack.fits(clauses, literals)?;
+    let needs = totals(db, pivot);
+    stack.fits(needs.clauses, needs.literals)?;
     save_all(db, stack, pivot);
     Ok(())
 }

@@ -5,5 +5,4 @@
 
 mod covering;
 pub mod eliminate;
-mod holding;
 mod signatures;

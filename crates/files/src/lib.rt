@@ -5,5 +5,5 @@
 mod checking;
 mod report;
 
-pub use checking::check_files;
+pub use checking::{check_files, finish_and_write};
 pub use report::Report;

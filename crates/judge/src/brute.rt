@@ -1,28 +1,21 @@
 // Satisfiability by trying every assignment.
 use crate::judge::Judge;
-use crate::sets::{is_met, make_true};
 use std::alloc::AllocError;
+use trials::assignments::{is_met, make_true};
 
 impl Judge {
     // Whether an assignment meets every loaded list.
     pub fn meets_loaded(&self, assignment: &[u8]) -> bool {
-        for list in self.loaded.iter() {
-            if !is_met(list.as_slice(), assignment) {
-                return false;
-            }
-        }
-        true
+        self.loaded
+            .iter()
+            .all(|list| is_met(list.as_slice(), assignment))
     }
 
     // The assignment whose bytes are the digits of a number in base 2.
     pub fn assignment(&self, code: u32) -> Result<Vec<u8>, AllocError> {
-        let mut bytes = Vec::new(self.heap);
-        let mut rest = code;
-        for _ in 0..self.variables {
-            bytes.push((rest % 2) as u8)?;
-            rest = rest / 2;
-        }
-        Ok(bytes)
+        (0..self.variables)
+            .map(|v| u8::from(code.checked_shr(v).unwrap_or(0) % 2 == 1))
+            .collect(self.heap)
     }
 
     // Whether two assignments differ at most in variables of saved pivots: made the same there, they are the same.

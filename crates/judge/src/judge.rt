@@ -1,34 +1,17 @@
-// What the judge keeps, and its reading of open, load, restore and write.
-use crate::sets::{has_pair, is_met, make_true, set_of};
+// What the judge keeps, and its reading of open, load, restore and write. That it resembles the product is the point: it is
+// written a second time, from the rules alone.
+use crate::answer::{Stop, at, nowhere};
+use crate::sets::{has_pair, set_of};
 use std::alloc::{AllocError, Global};
-use words::{Layer, Place, Refusal};
+use std::collections::BTreeMap;
+use trials::assignments::{is_met, make_true};
+use words::{Layer, Refusal};
 
-// None where a call is accepted.
-pub type Answer = Option<Refusal>;
-
-pub fn refusal(number: u8, place: Place, layer: Layer) -> Answer {
-    Some(Refusal {
-        number,
-        place,
-        layer,
-    })
-}
-
-// A standing clause under its number, or a saved one with its pivot too.
+// A saved clause and the literal that repairs it.
 #[derive(Drop)]
-pub struct Kept {
-    pub number: u32,
+pub struct Saved {
     pub pivot: i16,
     pub literals: Vec<i16>,
-}
-
-// How many literals clauses have together.
-pub fn total(clauses: &[Kept]) -> usize {
-    let mut total = 0usize;
-    for clause in clauses {
-        total = total.saturating_add(clause.literals.len());
-    }
-    total
 }
 
 // What there is space for: the highest variable, clauses and literals of the database, entries and literals of the stack.
@@ -41,27 +24,18 @@ pub struct Space {
     pub saved: usize,
 }
 
-// Numbers are given rising, so that the standing clauses, kept in the order in which they came, are in the order of their numbers.
+// The lists that were loaded, the standing clauses under their numbers, the saved ones in the order in which they were saved, the
+// highest number given and the count of accepted lines.
 #[derive(Drop)]
 pub struct Judge {
     pub heap: Global,
     pub space: Space,
     pub variables: u32,
     pub loaded: Vec<Vec<i16>>,
-    pub stands: Vec<Kept>,
-    pub saved: Vec<Kept>,
+    pub stands: BTreeMap<u32, Vec<i16>>,
+    pub saved: Vec<Saved>,
     pub last: u32,
     pub accepted: u32,
-}
-
-// Where a literal is first written, counted from 1.
-fn position(list: &[i16], x: i16) -> usize {
-    for (i, y) in list.iter().enumerate() {
-        if *y == x {
-            return i.saturating_add(1);
-        }
-    }
-    0
 }
 
 impl Judge {
@@ -71,138 +45,126 @@ impl Judge {
             space,
             variables,
             loaded: Vec::new(heap),
-            stands: Vec::new(heap),
+            stands: BTreeMap::new(heap),
             saved: Vec::new(heap),
             last: 0,
             accepted: 0,
         }
     }
 
-    // How open would be answered now, for a formula of so many variables.
-    pub fn open_answer(&self, variables: u32) -> Answer {
-        if self.stands.len() > 0 {
-            return refusal(10, Place::Nowhere, Layer::Open);
-        }
-        if self.saved.len() > 0 {
-            return refusal(11, Place::Nowhere, Layer::Open);
-        }
-        if variables > 512 {
-            return refusal(12, Place::Nowhere, Layer::Open);
-        }
-        None
+    // How many literals stand together.
+    pub fn standing_literals(&self) -> usize {
+        self.stands
+            .values()
+            .fold(0usize, |sum, literals| sum.saturating_add(literals.len()))
     }
 
-    // The clause that stands under a number.
-    pub fn find(&self, number: u32) -> Option<&[i16]> {
-        for clause in self.stands.iter() {
-            if clause.number == number {
-                return Some(clause.literals.as_slice());
-            }
+    // How many literals are saved together.
+    pub fn saved_literals(&self) -> usize {
+        self.saved.iter().fold(
+            0usize,
+            |sum, entry| sum.saturating_add(entry.literals.len()),
+        )
+    }
+
+    // How open would be answered now, for a formula of so many variables: with that count.
+    pub fn open_answer(&self, variables: u32) -> Result<u32, Refusal> {
+        if !self.stands.is_empty() {
+            return Err(nowhere(10, Layer::Open));
         }
-        None
+        if !self.saved.is_empty() {
+            return Err(nowhere(11, Layer::Open));
+        }
+        if variables > 512 {
+            return Err(nowhere(12, Layer::Open));
+        }
+        Ok(variables)
     }
 
     // Whether a variable is over the database's highest.
     fn too_high(&self, set: &[i16]) -> bool {
-        for x in set {
-            if x.unsigned_abs() as usize > self.space.variables {
-                return true;
-            }
-        }
-        false
+        set.iter()
+            .any(|x| usize::from(x.unsigned_abs()) > self.space.variables)
     }
 
     // Whether the database takes a clause under a number.
-    pub fn put_answer(&self, number: u32, set: &[i16]) -> Answer {
-        if self.find(number).is_some() {
-            return refusal(60, Place::Nowhere, Layer::Shelf);
+    pub fn put_answer(&self, number: u32, set: &[i16]) -> Result<(), Refusal> {
+        if self.stands.contains_key(&number) {
+            return Err(nowhere(60, Layer::Shelf));
         }
         if self.too_high(set) {
-            return refusal(61, Place::Nowhere, Layer::Shelf);
+            return Err(nowhere(61, Layer::Shelf));
         }
         if set.len() > 64 {
-            return refusal(62, Place::Nowhere, Layer::Shelf);
+            return Err(nowhere(62, Layer::Shelf));
         }
         if self.stands.len() >= self.space.clauses {
-            return refusal(63, Place::Nowhere, Layer::Shelf);
+            return Err(nowhere(63, Layer::Shelf));
         }
-        if total(self.stands.as_slice()).saturating_add(set.len()) > self.space.literals {
-            return refusal(64, Place::Nowhere, Layer::Shelf);
+        if self.standing_literals().saturating_add(set.len()) > self.space.literals {
+            return Err(nowhere(64, Layer::Shelf));
         }
-        None
+        Ok(())
     }
 
     // The first position that holds 0 or a variable beyond the formula.
     fn beyond(&self, list: &[i16]) -> Option<usize> {
-        for (i, x) in list.iter().enumerate() {
-            if *x == 0 || u32::from(x.unsigned_abs()) > self.variables {
-                return Some(i.saturating_add(1));
-            }
-        }
-        None
+        list.iter().position(|x| *x == 0 || u32::from(x.unsigned_abs()) > self.variables)
     }
 
-    fn load_answer(&self, list: &[i16], set: &[i16]) -> Answer {
+    // Whether a list is loaded that holds this set of literals.
+    fn load_answer(&self, list: &[i16], set: &[i16]) -> Result<(), Refusal> {
         if self.loaded.len() >= 1_024 {
-            return refusal(27, Place::Nowhere, Layer::Load);
+            return Err(nowhere(27, Layer::Load));
         }
-        if let Some(at) = self.beyond(list) {
-            return refusal(24, Place::At(at), Layer::Load);
+        if let Some(i) = self.beyond(list) {
+            return Err(at(24, i.saturating_add(1), Layer::Load));
         }
         if has_pair(list) {
-            return None;
+            return Ok(());
         }
-        if let Some(x) = set.get(64) {
-            return refusal(25, Place::At(position(list, *x)), Layer::Load);
+        if let Some(i) = set.get(64).and_then(|x| list.iter().position(|y| *y == *x)) {
+            return Err(at(25, i.saturating_add(1), Layer::Load));
         }
         self.put_answer(self.last.saturating_add(1), set)
     }
 
-    // Loads a list, or refuses it.
-    pub fn load(&mut self, list: &[i16]) -> Result<Answer, AllocError> {
+    // Loads a list under the next number, or refuses it.
+    pub fn load(&mut self, list: &[i16]) -> Result<u32, Stop> {
         let set = set_of(self.heap, list)?;
-        let answer = self.load_answer(list, set.as_slice());
-        if answer.is_none() {
-            self.last = self.last.saturating_add(1);
-            self.loaded.push(list.to_vec(self.heap)?)?;
-            if !has_pair(list) {
-                self.stands.push(Kept {
-                    number: self.last,
-                    pivot: 0,
-                    literals: set,
-                })?;
-            }
+        self.load_answer(list, set.as_slice())?;
+        self.last = self.last.saturating_add(1);
+        self.loaded.push(list.to_vec(self.heap)?)?;
+        if !has_pair(list) {
+            self.stands.insert(self.last, set)?;
         }
-        Ok(answer)
+        Ok(self.last)
     }
 
-    // The lowest number of a standing clause that is not met, or 0.
-    pub fn first_unmet(&self, assignment: &[u8]) -> u32 {
-        for clause in self.stands.iter() {
-            if !is_met(clause.literals.as_slice(), assignment) {
-                return clause.number;
-            }
-        }
-        0
+    // The lowest number of a standing clause that is not met.
+    pub fn first_unmet(&self, assignment: &[u8]) -> Option<u32> {
+        self.stands
+            .iter()
+            .find(|(_, literals)| !is_met(literals.as_slice(), assignment))
+            .map(|(number, _)| *number)
     }
 
-    pub fn restore_answer(&self, assignment: &[u8]) -> Answer {
+    // How restoring is answered. `as`: the library has no `From` from u32 to usize.
+    pub fn restore_answer(&self, assignment: &[u8]) -> Result<(), Refusal> {
         if assignment.len() != self.variables as usize {
-            return refusal(70, Place::At(assignment.len()), Layer::Restore);
+            return Err(at(70, assignment.len(), Layer::Restore));
         }
-        for (i, byte) in assignment.iter().enumerate() {
-            if *byte > 1 {
-                return refusal(71, Place::At(i.saturating_add(1)), Layer::Restore);
-            }
+        if let Some(i) = assignment.iter().position(|byte| *byte > 1) {
+            return Err(at(71, i.saturating_add(1), Layer::Restore));
         }
-        let unmet = self.first_unmet(assignment);
-        if unmet > 0 {
-            return refusal(72, Place::At(unmet as usize), Layer::Restore);
+        match self.first_unmet(assignment) {
+            Some(number) => Err(at(72, number as usize, Layer::Restore)),
+            None => Ok(()),
         }
-        None
     }
 
-    // From the last saved clause to the first: the pivot of one that is not met is made true.
+    // From the last saved clause to the first: the pivot of one that is not met is made true. The model of `cases` has the same
+    // loop, as each reads the rule for itself.
     pub fn restore(&self, assignment: &mut [u8]) {
         for entry in self.saved.iter().rev() {
             if !is_met(entry.literals.as_slice(), assignment) {
@@ -213,12 +175,10 @@ impl Judge {
 
     // The literals of a clause by rising variable, each with a space, and 0 at the end of the line.
     fn clause_text(&self, clause: &[i16], text: &mut String) -> Result<(), AllocError> {
-        for v in 1..513i16 {
-            for x in [v, v.wrapping_neg()] {
-                if clause.contains(&x) {
-                    text.push_str(format!(in self.heap; "{x} ")?.as_str())?;
-                }
-            }
+        let mut literals = clause.to_vec(self.heap)?;
+        literals.sort_unstable_by_key(|x| x.unsigned_abs());
+        for x in literals.iter() {
+            write!(text, "{x} ")?;
         }
         text.push_str("0\n")
     }
@@ -228,20 +188,20 @@ impl Judge {
         let variables = self.variables;
         let count = self.stands.len();
         let mut text = format!(in self.heap; "p cnf {variables} {count}\n")?;
-        for clause in self.stands.iter() {
-            self.clause_text(clause.literals.as_slice(), &mut text)?;
+        for clause in self.stands.values() {
+            self.clause_text(clause.as_slice(), &mut text)?;
         }
         Ok(text)
     }
 
-    // How writing a text of this length into a buffer of that length is answered.
-    pub fn write_answer(&self, text: usize, buffer: usize) -> Answer {
+    // How writing a text of this length into a buffer of that length is answered: with its length.
+    pub fn write_answer(&self, text: usize, buffer: usize) -> Result<usize, Refusal> {
         if self.stands.len() > 1_024 || text > 65_536 {
-            return refusal(81, Place::Nowhere, Layer::Write);
+            return Err(nowhere(81, Layer::Write));
         }
         if buffer < text {
-            return refusal(80, Place::Nowhere, Layer::Write);
+            return Err(nowhere(80, Layer::Write));
         }
-        None
+        Ok(text)
     }
 }

@@ -5,6 +5,8 @@
 #![tactic(auto)]
 
 #[cfg(test)]
+mod answer;
+#[cfg(test)]
 mod brute;
 #[cfg(test)]
 mod drive;
@@ -18,8 +20,6 @@ mod judge;
 mod limits;
 #[cfg(test)]
 mod line_rules;
-#[cfg(test)]
-mod random;
 #[cfg(test)]
 mod same;
 #[cfg(test)]

@@ -1,282 +1,303 @@
-// The judge's reading of a line: its fields, the four rules, and what an accepted line does.
-use crate::judge::{Answer, Judge, Kept, refusal, total};
+// The judge's reading of a line: its fields, the four rules, and what an accepted line does. Sets, resolvents and checks are its
+// own, since it judges the product's.
+use crate::answer::{Stop, at, nowhere};
+use crate::judge::{Judge, Saved};
 use crate::sets::{equal, has_pair, negated, resolvent, within};
 use std::alloc::AllocError;
-use words::{Kind, Layer, Line, Place};
+use words::{Kind, Layer, Line, Place, Refusal};
 
-// A refusal by a rule, at a clause.
-fn at(number: u8, clause: u32) -> Answer {
-    refusal(number, Place::At(clause as usize), Layer::Rule)
+// A line whose fields are right: those that its kind uses.
+#[derive(Clone, Copy)]
+enum Step {
+    Resolve {
+        number: u32,
+        pivot: i16,
+        first: u32,
+        second: u32,
+    },
+    Subsumed {
+        clause: u32,
+        first: u32,
+    },
+    Blocked {
+        clause: u32,
+        pivot: i16,
+    },
+    Eliminate {
+        pivot: i16,
+    },
+}
+
+// A refusal by a rule, at a clause. `as`: the library has no `From` from u32 to usize.
+fn at_clause(number: u8, clause: u32) -> Refusal {
+    at(number, clause as usize, Layer::Rule)
 }
 
 // A refusal by a rule, at two clauses.
-fn at_pair(number: u8, one: u32, other: u32) -> Answer {
-    refusal(number, Place::Pair(one, other), Layer::Rule)
-}
-
-// Whether a clause number is 0 though used, filled though not used, or out of range.
-fn wrong_number(value: u32, used: bool) -> bool {
-    if used {
-        value == 0 || value > 1_000_000
-    } else {
-        value != 0
+fn at_pair(number: u8, one: u32, other: u32) -> Refusal {
+    Refusal {
+        number,
+        place: Place::Pair(one, other),
+        layer: Layer::Rule,
     }
 }
 
-// The same of a pivot.
-fn wrong_pivot(kind: Kind, pivot: i32) -> bool {
+// Whether a number is no clause number.
+fn no_number(value: u32) -> bool {
+    !(1..=1_000_000).contains(&value)
+}
+
+// Whether a number is no literal.
+fn no_literal(value: i32) -> bool {
+    value == 0 || !(-512..=512).contains(&value)
+}
+
+// Of each field behind the kind, whether it is wrong: a used one out of range, or one filled that is not used.
+fn wrong_fields(line: &Line) -> [bool; 4] {
+    let Line {
+        kind,
+        clause,
+        pivot,
+        first,
+        second,
+    } = *line;
     match kind {
-        Kind::Subsumed => pivot != 0,
-        Kind::Eliminate => pivot < 1 || pivot > 512,
-        _ => pivot == 0 || pivot < -512 || pivot > 512,
+        Kind::Resolve => [
+            no_number(clause),
+            no_literal(pivot),
+            no_number(first),
+            no_number(second),
+        ],
+        Kind::Subsumed => [no_number(clause), pivot != 0, no_number(first), second != 0],
+        Kind::Blocked => [
+            no_number(clause),
+            no_literal(pivot),
+            first != 0,
+            second != 0,
+        ],
+        Kind::Eliminate => [
+            clause != 0,
+            !(1..=512).contains(&pivot),
+            first != 0,
+            second != 0,
+        ],
     }
 }
 
-// The first wrong field.
-fn wrong_field(line: &Line) -> Option<usize> {
-    let (clause, first, second) = match line.kind {
-        Kind::Resolve => (true, true, true),
-        Kind::Subsumed => (true, true, false),
-        Kind::Blocked => (true, false, false),
-        Kind::Eliminate => (false, false, false),
-    };
-    if wrong_number(line.clause, clause) {
-        return Some(2);
+// Reads a line, or refuses it at its first wrong field.
+fn read(line: &Line) -> Result<Step, Refusal> {
+    if let Some(i) = wrong_fields(line).iter().position(|wrong| *wrong) {
+        return Err(at(33, i.saturating_add(2), Layer::Submit));
     }
-    if wrong_pivot(line.kind, line.pivot) {
-        return Some(3);
-    }
-    if wrong_number(line.first, first) {
-        return Some(4);
-    }
-    if wrong_number(line.second, second) {
-        return Some(5);
-    }
-    None
-}
-
-// The pivot as a literal; 0 where there is none.
-fn pivot_of(line: &Line) -> i16 {
-    if line.pivot < -512 || line.pivot > 512 {
-        return 0;
-    }
-    line.pivot as i16
+    // a pivot that is not wrong is a 16-bit number
+    let pivot = i16::try_from(line.pivot).unwrap_or(0);
+    Ok(match line.kind {
+        Kind::Resolve => Step::Resolve {
+            number: line.clause,
+            pivot,
+            first: line.first,
+            second: line.second,
+        },
+        Kind::Subsumed => Step::Subsumed {
+            clause: line.clause,
+            first: line.first,
+        },
+        Kind::Blocked => Step::Blocked {
+            clause: line.clause,
+            pivot,
+        },
+        Kind::Eliminate => Step::Eliminate { pivot },
+    })
 }
 
 // Whether the marks are 1,024 zeros.
 fn clean(marks: &[u8]) -> bool {
-    for mark in marks {
-        if *mark != 0 {
-            return false;
-        }
+    marks.len() == 1_024 && marks.iter().all(|mark| *mark == 0)
+}
+
+// The literal of a variable that a clause holds; none holds both.
+fn side(literals: &[i16], pivot: i16) -> Option<i16> {
+    [pivot, negated(pivot)]
+        .into_iter()
+        .find(|x| literals.contains(x))
+}
+
+// Refuses a clause that lacks a literal.
+fn holding(number: u32, literals: &[i16], x: i16) -> Result<(), Refusal> {
+    if literals.contains(&x) {
+        Ok(())
+    } else {
+        Err(at_clause(43, number))
     }
-    marks.len() == 1_024
 }
 
 impl Judge {
-    fn resolve(&self, line: &Line, pivot: i16) -> Result<Answer, AllocError> {
-        if line.clause <= self.last {
-            return Ok(at(41, line.clause));
-        }
-        let Some(a) = self.find(line.first) else {
-            return Ok(at(42, line.first));
-        };
-        let Some(b) = self.find(line.second) else {
-            return Ok(at(42, line.second));
-        };
-        if !a.contains(&pivot) {
-            return Ok(at(43, line.first));
-        }
-        if !b.contains(&negated(pivot)) {
-            return Ok(at(43, line.second));
-        }
-        let both = resolvent(self.heap, a, b, pivot)?;
-        if has_pair(both.as_slice()) {
-            return Ok(at_pair(44, line.first, line.second));
-        }
-        if both.len() > 64 {
-            return Ok(at_pair(45, line.first, line.second));
-        }
-        Ok(self.put_answer(line.clause, both.as_slice()))
+    // The clause that stands under a number, which a rule asks for.
+    fn standing(&self, number: u32) -> Result<&[i16], Refusal> {
+        self.stands
+            .get(&number)
+            .map(|literals| literals.as_slice())
+            .ok_or(at_clause(42, number))
     }
 
-    fn subsumed(&self, line: &Line) -> Answer {
-        let Some(clause) = self.find(line.clause) else {
-            return at(42, line.clause);
-        };
-        let Some(first) = self.find(line.first) else {
-            return at(42, line.first);
-        };
-        if line.first == line.clause || !within(first, clause) {
-            return at_pair(46, line.clause, line.first);
+    // The resolvent that a line adds.
+    fn resolved(&self, number: u32, pivot: i16, first: u32, second: u32) -> Result<Vec<i16>, Stop> {
+        if number <= self.last {
+            return Err(at_clause(41, number).into());
         }
-        None
+        let a = self.standing(first)?;
+        let b = self.standing(second)?;
+        holding(first, a, pivot)?;
+        holding(second, b, negated(pivot))?;
+        let both = resolvent(self.heap, a, b, pivot)?;
+        if has_pair(both.as_slice()) {
+            return Err(at_pair(44, first, second).into());
+        }
+        if both.len() > 64 {
+            return Err(at_pair(45, first, second).into());
+        }
+        self.put_answer(number, both.as_slice())?;
+        Ok(both)
+    }
+
+    fn subsumed(&self, clause: u32, first: u32) -> Result<(), Refusal> {
+        let whole = self.standing(clause)?;
+        let part = self.standing(first)?;
+        if first == clause || !within(part, whole) {
+            return Err(at_pair(46, clause, first));
+        }
+        Ok(())
     }
 
     // Whether the stack has space for so many entries and literals.
-    fn save_answer(&self, entries: usize, literals: usize) -> Answer {
+    fn save_answer(&self, entries: usize, literals: usize) -> Result<(), Refusal> {
         if self.saved.len().saturating_add(entries) > self.space.entries {
-            return refusal(65, Place::Nowhere, Layer::Roll);
+            return Err(nowhere(65, Layer::Roll));
         }
-        if total(self.saved.as_slice()).saturating_add(literals) > self.space.saved {
-            return refusal(66, Place::Nowhere, Layer::Roll);
+        if self.saved_literals().saturating_add(literals) > self.space.saved {
+            return Err(nowhere(66, Layer::Roll));
         }
-        None
+        Ok(())
     }
 
-    fn blocked(&self, line: &Line, pivot: i16) -> Result<Answer, AllocError> {
-        let Some(clause) = self.find(line.clause) else {
-            return Ok(at(42, line.clause));
-        };
-        if !clause.contains(&pivot) {
-            return Ok(at(43, line.clause));
+    // Whether a clause is blocked on its literal, and there is space to save it.
+    fn blocked(&self, number: u32, pivot: i16) -> Result<(), Stop> {
+        let clause = self.standing(number)?;
+        holding(number, clause, pivot)?;
+        let passes = |both: &[i16]| has_pair(both);
+        if let Some(other) = self.fails_with(clause, pivot, &passes)? {
+            return Err(at_clause(47, other).into());
         }
-        for other in self.stands.iter() {
-            let literals = other.literals.as_slice();
-            if literals.contains(&negated(pivot)) {
-                let both = resolvent(self.heap, clause, literals, pivot)?;
-                if !has_pair(both.as_slice()) {
-                    return Ok(at(47, other.number));
-                }
-            }
-        }
-        Ok(self.save_answer(1, clause.len()))
+        self.save_answer(1, clause.len())?;
+        Ok(())
     }
 
     // Whether a set stands under some number.
     pub fn stands_somewhere(&self, set: &[i16]) -> bool {
-        for clause in self.stands.iter() {
-            if equal(clause.literals.as_slice(), set) {
-                return true;
-            }
-        }
-        false
+        self.stands
+            .values()
+            .any(|literals| equal(literals.as_slice(), set))
     }
 
-    // The lowest number from N with which a clause from P fails, or 0.
-    fn fails_with(&self, clause: &[i16], pivot: i16) -> Result<u32, AllocError> {
-        for other in self.stands.iter() {
-            let literals = other.literals.as_slice();
-            if literals.contains(&negated(pivot)) {
-                let both = resolvent(self.heap, clause, literals, pivot)?;
-                if !has_pair(both.as_slice()) && !self.stands_somewhere(both.as_slice()) {
-                    return Ok(other.number);
+    // The lowest number from N whose resolvent with a clause from P does not pass. A loop: a resolvent may find no memory.
+    fn fails_with<F: Fn(&[i16]) -> bool>(
+        &self,
+        clause: &[i16],
+        pivot: i16,
+        passes: &F,
+    ) -> Result<Option<u32>, AllocError>
+        requires { F.IsAlwaysCallable passes.now }
+    {
+        for (other, literals) in self.stands.iter() {
+            if literals.as_slice().contains(&negated(pivot)) {
+                let both = resolvent(self.heap, clause, literals.as_slice(), pivot)?;
+                if !passes(both.as_slice()) {
+                    return Ok(Some(*other));
                 }
             }
         }
-        Ok(0)
+        Ok(None)
     }
 
-    fn eliminate(&self, pivot: i16) -> Result<Answer, AllocError> {
-        let mut entries = 0usize;
-        let mut literals = 0usize;
-        for clause in self.stands.iter() {
-            let set = clause.literals.as_slice();
-            if set.contains(&pivot) {
-                let other = self.fails_with(set, pivot)?;
-                if other > 0 {
-                    return Ok(at_pair(48, clause.number, other));
+    // Whether every pair on a pivot is covered.
+    fn covered(&self, pivot: i16) -> Result<(), Stop> {
+        let passes = |both: &[i16]| has_pair(both) || self.stands_somewhere(both);
+        for (number, literals) in self.stands.iter() {
+            if literals.as_slice().contains(&pivot) {
+                if let Some(other) = self.fails_with(literals.as_slice(), pivot, &passes)? {
+                    return Err(at_pair(48, *number, other).into());
                 }
             }
-            if set.contains(&pivot) || set.contains(&negated(pivot)) {
-                entries = entries.saturating_add(1);
-                literals = literals.saturating_add(set.len());
-            }
         }
-        Ok(self.save_answer(entries, literals))
-    }
-
-    fn line_answer(&self, marks: &[u8], line: &Line) -> Result<Answer, AllocError> {
-        if !clean(marks) {
-            return Ok(refusal(40, Place::Nowhere, Layer::Submit));
-        }
-        if let Some(field) = wrong_field(line) {
-            return Ok(refusal(33, Place::At(field), Layer::Submit));
-        }
-        let pivot = pivot_of(line);
-        match line.kind {
-            Kind::Resolve => self.resolve(line, pivot),
-            Kind::Subsumed => Ok(self.subsumed(line)),
-            Kind::Blocked => self.blocked(line, pivot),
-            Kind::Eliminate => self.eliminate(pivot),
-        }
-    }
-
-    // Takes the clause under a number away; answers its literals.
-    fn take(&mut self, number: u32) -> Vec<i16> {
-        let mut place = self.stands.len();
-        for (i, clause) in self.stands.iter().enumerate() {
-            if clause.number == number {
-                place = i;
-            }
-        }
-        if place < self.stands.len() {
-            return self.stands.remove(place).literals;
-        }
-        Vec::new(self.heap)
-    }
-
-    fn take_and_save(&mut self, number: u32, pivot: i16) -> Result<(), AllocError> {
-        let literals = self.take(number);
-        self.saved.push(Kept {
-            number,
-            pivot,
-            literals,
-        })?;
-        Ok(())
-    }
-
-    fn add_resolvent(&mut self, line: &Line, pivot: i16) -> Result<(), AllocError> {
-        let literals = match (self.find(line.first), self.find(line.second)) {
-            (Some(a), Some(b)) => resolvent(self.heap, a, b, pivot)?,
-            _ => Vec::new(self.heap),
-        };
-        self.last = line.clause;
-        self.stands.push(Kept {
-            number: line.clause,
-            pivot: 0,
-            literals,
-        })?;
         Ok(())
     }
 
     // The numbers of P and N, each with the literal of the pivot that its clause holds.
     fn sides(&self, pivot: i16) -> Result<Vec<(u32, i16)>, AllocError> {
-        let mut sides = Vec::new(self.heap);
-        for clause in self.stands.iter() {
-            for side in [pivot, negated(pivot)] {
-                if clause.literals.as_slice().contains(&side) {
-                    sides.push((clause.number, side))?;
-                }
-            }
-        }
-        Ok(sides)
+        self.stands
+            .iter()
+            .filter_map(|(number, literals)| Some((*number, side(literals.as_slice(), pivot)?)))
+            .collect(self.heap)
     }
 
-    fn carry_out(&mut self, line: &Line) -> Result<(), AllocError> {
-        let pivot = pivot_of(line);
-        match line.kind {
-            Kind::Resolve => self.add_resolvent(line, pivot)?,
-            Kind::Subsumed => {
-                let _ = self.take(line.clause);
-            }
-            Kind::Blocked => self.take_and_save(line.clause, pivot)?,
-            Kind::Eliminate => {
-                for (number, side) in self.sides(pivot)?.iter() {
-                    self.take_and_save(*number, *side)?;
-                }
-            }
+    // How many literals the clauses of P and N have together.
+    fn side_literals(&self, pivot: i16) -> usize {
+        self.stands
+            .values()
+            .filter(|literals| side(literals.as_slice(), pivot).is_some())
+            .fold(0usize, |sum, literals| sum.saturating_add(literals.len()))
+    }
+
+    fn eliminate(&mut self, pivot: i16) -> Result<(), Stop> {
+        self.covered(pivot)?;
+        let sides = self.sides(pivot)?;
+        self.save_answer(sides.len(), self.side_literals(pivot))?;
+        for (number, side) in sides.iter() {
+            self.take_and_save(*number, *side)?;
         }
-        self.accepted = self.accepted.saturating_add(1);
         Ok(())
     }
 
-    // Answers a line, and carries an accepted one out.
-    pub fn submit(&mut self, marks: &[u8], line: &Line) -> Result<Answer, AllocError> {
-        let answer = self.line_answer(marks, line)?;
-        if answer.is_none() {
-            self.carry_out(line)?;
+    fn take_and_save(&mut self, number: u32, pivot: i16) -> Result<(), AllocError> {
+        if let Some(literals) = self.stands.remove(&number) {
+            self.saved.push(Saved { pivot, literals })?;
         }
-        Ok(answer)
+        Ok(())
+    }
+
+    // Carries out a step, or refuses it.
+    fn carry_out(&mut self, step: Step) -> Result<(), Stop> {
+        match step {
+            Step::Resolve {
+                number,
+                pivot,
+                first,
+                second,
+            } => {
+                let both = self.resolved(number, pivot, first, second)?;
+                self.last = number;
+                self.stands.insert(number, both)?;
+            }
+            Step::Subsumed { clause, first } => {
+                self.subsumed(clause, first)?;
+                self.stands.remove(&clause);
+            }
+            Step::Blocked { clause, pivot } => {
+                self.blocked(clause, pivot)?;
+                self.take_and_save(clause, pivot)?;
+            }
+            Step::Eliminate { pivot } => self.eliminate(pivot)?,
+        }
+        Ok(())
+    }
+
+    // Carries out a line, or refuses it.
+    pub fn submit(&mut self, marks: &[u8], line: &Line) -> Result<(), Stop> {
+        if !clean(marks) {
+            return Err(nowhere(40, Layer::Submit).into());
+        }
+        self.carry_out(read(line)?)?;
+        self.accepted = self.accepted.saturating_add(1);
+        Ok(())
     }
 }

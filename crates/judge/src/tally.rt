@@ -1,11 +1,12 @@
 // What came about, counted, so that a reader sees that nothing is vacuous.
-use crate::judge::Answer;
-use std::io;
+use std::alloc::{AllocError, Global};
+use std::collections::BTreeMap;
 use std::process::Abort;
-use words::Kind;
+use std::{fmt, io};
+use words::{Kind, Refusal};
 
 // What is counted besides refusals.
-#[derive(Clone, Copy)]
+#[derive(Clone, Copy, PartialEq, Eq, PartialOrd, Ord)]
 pub enum What {
     Histories,
     Opened,
@@ -22,77 +23,114 @@ pub enum What {
     Written,
 }
 
-const NAMES: [&str; 13] = [
-    "histories",
-    "opened at another time",
-    "satisfiable",
-    "unsatisfiable",
-    "lists loaded",
-    "R",
-    "S",
-    "B",
-    "E",
-    "E with clauses on both sides",
-    "restored",
-    "restored with a change",
-    "written",
-];
-
-#[derive(Drop)]
-pub struct Tally {
-    pub counts: [u32; 13],
-    pub refused: [u32; 256],
+impl What {
+    const ALL: [What; 13] = [
+        What::Histories,
+        What::Opened,
+        What::Satisfiable,
+        What::Unsatisfiable,
+        What::Loaded,
+        What::Resolved,
+        What::Subsumed,
+        What::Blocked,
+        What::Eliminated,
+        What::InPairs,
+        What::Restored,
+        What::Repaired,
+        What::Written,
+    ];
 }
 
-impl Tally {
-    pub fn count(&mut self, what: What) {
-        let place = what as usize;
-        if place < 13 {
-            self.counts[place] = self.counts[place].saturating_add(1);
-        }
+impl fmt::Display for What {
+    fn fmt<W: fmt::Write>(&self, f: &mut fmt::Formatter<W>) -> fmt::Result {
+        f.write_str(match *self {
+            What::Histories => "histories",
+            What::Opened => "opened at another time",
+            What::Satisfiable => "satisfiable",
+            What::Unsatisfiable => "unsatisfiable",
+            What::Loaded => "lists loaded",
+            What::Resolved => "R",
+            What::Subsumed => "S",
+            What::Blocked => "B",
+            What::Eliminated => "E",
+            What::InPairs => "E with clauses on both sides",
+            What::Restored => "restored",
+            What::Repaired => "restored with a change",
+            What::Written => "written",
+        })
     }
+}
 
-    // Counts an answer.
-    pub fn answer(&mut self, answer: &Answer, what: What) {
-        match answer {
-            Some(refusal) => {
-                let number = refusal.number as usize;
-                self.refused[number] = self.refused[number].saturating_add(1);
-            }
-            None => self.count(what),
-        }
-    }
-
-    // Counts the answer of a line.
-    pub fn line(&mut self, kind: Kind, answer: &Answer) {
-        let what = match kind {
+// An accepted line of a kind.
+impl From<Kind> for What {
+    fn from(kind: Kind) -> What {
+        match kind {
             Kind::Resolve => What::Resolved,
             Kind::Subsumed => What::Subsumed,
             Kind::Blocked => What::Blocked,
             Kind::Eliminate => What::Eliminated,
-        };
-        self.answer(answer, what)
+        }
+    }
+}
+
+// How often each came about, and each refusal by its number.
+#[derive(Drop)]
+pub struct Tally {
+    counts: BTreeMap<What, u32>,
+    refused: BTreeMap<u8, u32>,
+}
+
+// Counts one more of a kind.
+fn add<K: Ord + Drop>(counts: &mut BTreeMap<K, u32>, key: K) -> Result<(), AllocError> {
+    let count = counts.entry(key)?.or_insert(0);
+    *count = count.saturating_add(1);
+    Ok(())
+}
+
+impl Tally {
+    pub fn new(heap: Global) -> Tally {
+        Tally {
+            counts: BTreeMap::new(heap),
+            refused: BTreeMap::new(heap),
+        }
     }
 
-    pub fn print(&self, rt: &HostRuntime) -> io::Result<()> {
-        for (name, count) in NAMES.iter().zip(self.counts.iter()) {
-            println!(rt; "{name}: {count}")?;
+    pub fn count(&mut self, what: What) -> Result<(), AllocError> {
+        add(&mut self.counts, what)
+    }
+
+    // Counts an answer: what was accepted, or the refusal.
+    pub fn answer<T>(&mut self, answer: &Result<T, Refusal>, what: What) -> Result<(), AllocError> {
+        match answer {
+            Ok(_) => self.count(what),
+            Err(refusal) => add(&mut self.refused, refusal.number),
         }
-        for (number, count) in self.refused.iter().enumerate() {
-            if *count > 0 {
-                println!(rt; "refused with {number}: {count}")?;
-            }
+    }
+
+    fn print_counts(&self, rt: &HostRuntime) -> io::Result<()> {
+        for (what, count) in self.counts.iter() {
+            println!(rt; "{what}: {count}")?;
         }
         Ok(())
     }
 
-    // Everything came about, and so did refusals with these numbers and no others.
-    pub fn holds(&self, rt: &impl Abort, numbers: &[usize]) {
-        for count in self.counts.iter() {
-            assert!(rt; *count > 0);
+    // First what came about, and then the refusals.
+    pub fn print(&self, rt: &HostRuntime) -> io::Result<()> {
+        self.print_counts(rt)?;
+        for (number, count) in self.refused.iter() {
+            println!(rt; "refused with {number}: {count}")?;
         }
-        for (number, count) in self.refused.iter().enumerate() {
-            assert_eq!(rt; *count > 0, numbers.contains(&number), "{}", number);
+        Ok(())
+    }
+
+    // Everything came about, and so did refusals with these numbers, by rising number, and no others.
+    pub fn holds(&self, rt: &impl Abort, numbers: &[u8]) {
+        for what in &What::ALL {
+            assert!(rt; self.counts.contains_key(what), "{what}");
         }
+        assert!(rt;
+            self.refused.keys().eq(numbers.iter()),
+            "other refusals than those that can come"
+        );
     }
 }

@@ -1,52 +1,19 @@
 // Random histories on both kinds of clause database.
-use crate::drive::{Trial, run};
+use crate::drive::Trial;
 use crate::generate::Plan;
 use crate::judge::{Judge, Space};
-use crate::random::Random;
 use crate::tally::Tally;
-use arena::{Arena, Record};
 use bitmask::Bitmask;
-use reconstruction::{ReconstructionStack, SavedEntry, SavedLiteral};
+use database::ClauseDatabase;
+use reconstruction::ReconstructionStack;
 use std::alloc::Global;
 use std::process::Abort;
 use std::test::*;
+use trials::filled::{arena_memory, stack_memory};
+use trials::random::Random;
 
 // How many histories there are on each kind.
 const HISTORIES: u32 = 5_000;
-
-// What the memories hold before anything is made over them.
-const RECORD: Record = Record {
-    number: 5,
-    start: 9,
-    len: 3,
-};
-
-const ENTRY: SavedEntry = SavedEntry { pivot: 9, count: 3 };
-
-const LITERAL: SavedLiteral = SavedLiteral { value: 9 };
-
-fn trial(heap: Global, seed: u64) -> Trial {
-    Trial {
-        judge: Judge::new(heap, space(0, 0, 0), 0),
-        random: Random { state: seed },
-        tally: Tally {
-            counts: [0; 13],
-            refused: [0; 256],
-        },
-        marks: [0; 1025],
-    }
-}
-
-// A database that holds this, and no stack yet.
-fn space(variables: usize, clauses: usize, literals: usize) -> Space {
-    Space {
-        variables,
-        clauses,
-        literals,
-        entries: 0,
-        saved: 0,
-    }
-}
 
 // Mostly few variables, so that every assignment can be tried.
 fn plain(random: &mut Random) -> Plan {
@@ -112,84 +79,126 @@ fn some_plan(random: &mut Random) -> Plan {
 }
 
 // Lengths of the memories of clauses or entries and of their literals, one time in four so short that they do not suffice.
-fn some_lengths(random: &mut Random, few: u32, full: usize) -> (usize, usize) {
+fn some_lengths(random: &mut Random, few: usize, full: usize) -> (usize, usize) {
     match random.below(8) {
-        0 => (random.below(few) as usize, 17_000),
-        1 => (full, random.below(few.saturating_mul(3)) as usize),
+        0 => (random.place(few), 17_000),
+        1 => (full, random.place(few.saturating_mul(3))),
         _ => (full, 17_000),
     }
 }
 
-// A history on an arena.
-fn on_arena(rt: &impl Abort, heap: Global, trial: &mut Trial, plan: &Plan) -> Result<(), Fail> {
-    let (records, literals) = some_lengths(&mut trial.random, 10, 1_100);
-    let (entries, saved) = some_lengths(&mut trial.random, 6, 2_100);
-    let mut record_memory = vec![in heap; RECORD; records]?;
-    let mut literal_memory = vec![in heap; -7i16; literals]?;
-    let mut entry_memory = vec![in heap; ENTRY; entries]?;
-    let mut saved_memory = vec![in heap; LITERAL; saved]?;
-    let mut space = space(512, records.min(1_024), literals.min(16_384));
-    space.entries = entries.min(2_048);
-    space.saved = saved.min(16_384);
-    trial.judge = Judge::new(heap, space, plan.variables);
-    let mut db = Arena::new(literal_memory.as_mut_slice(), record_memory.as_mut_slice());
-    let mut stack = ReconstructionStack::new(
-        entry_memory.as_mut_slice(),
-        saved_memory.as_mut_slice(),
-    );
-    run(rt, &mut db, &mut stack, trial, plan)
+// The histories of a run share the random numbers and the tally.
+#[derive(Drop)]
+struct Histories<'t, R: Abort> {
+    rt: &'t R,
+    heap: Global,
+    random: Random,
+    tally: Tally,
 }
 
-// A history on a bitmask database.
-fn on_bitmask(rt: &impl Abort, heap: Global, trial: &mut Trial, plan: &Plan) -> Result<(), Fail> {
-    let (entries, saved) = some_lengths(&mut trial.random, 6, 2_100);
-    let mut entry_memory = vec![in heap; ENTRY; entries]?;
-    let mut saved_memory = vec![in heap; LITERAL; saved]?;
-    let mut space = space(64, 256, 16_384);
-    space.entries = entries.min(2_048);
-    space.saved = saved.min(16_384);
-    trial.judge = Judge::new(heap, space, plan.variables);
-    let mut db = Bitmask::new();
-    let mut stack = ReconstructionStack::new(
-        entry_memory.as_mut_slice(),
-        saved_memory.as_mut_slice(),
-    );
-    run(rt, &mut db, &mut stack, trial, plan)
+impl<R: Abort> Histories<'_, R> {
+    // A history on an empty database and an empty stack, which have this space.
+    fn on<'t, D: ClauseDatabase>(
+        &'t mut self,
+        db: &'t mut D,
+        stack: &'t mut ReconstructionStack<'_>,
+        space: Space,
+        plan: &Plan,
+    ) -> Result<(), Fail> {
+        let mut trial = Trial {
+            rt: self.rt,
+            db,
+            stack,
+            marks: [0; 1025],
+            judge: Judge::new(self.heap, space, plan.variables),
+            random: &mut self.random,
+            tally: &mut self.tally,
+        };
+        trial.run(plan)
+    }
+
+    // A history on an arena.
+    fn on_arena(&mut self) -> Result<(), Fail> {
+        let plan = some_plan(&mut self.random);
+        let (records, literals) = some_lengths(&mut self.random, 10, 1_100);
+        let (entries, saved) = some_lengths(&mut self.random, 6, 2_100);
+        let mut arena_memory = arena_memory(self.heap, literals, records)?;
+        let mut stack_memory = stack_memory(self.heap, entries, saved)?;
+        let space = Space {
+            variables: 512,
+            clauses: records.min(1_024),
+            literals: literals.min(16_384),
+            entries: entries.min(2_048),
+            saved: saved.min(16_384),
+        };
+        let mut arena = arena_memory.arena();
+        let mut stack = stack_memory.stack();
+        self.on(&mut arena, &mut stack, space, &plan)
+    }
+
+    // A history on a bitmask database.
+    fn on_bitmask(&mut self) -> Result<(), Fail> {
+        let plan = some_plan(&mut self.random);
+        let (entries, saved) = some_lengths(&mut self.random, 6, 2_100);
+        let mut memory = stack_memory(self.heap, entries, saved)?;
+        let space = Space {
+            variables: 64,
+            clauses: 256,
+            literals: 16_384,
+            entries: entries.min(2_048),
+            saved: saved.min(16_384),
+        };
+        let mut stack = memory.stack();
+        self.on(&mut Bitmask::new(), &mut stack, space, &plan)
+    }
+
+    // So many histories came about, with refusals by these numbers and no others.
+    fn end(&self, numbers: &[u8]) {
+        self.tally.holds(self.rt, numbers);
+    }
+}
+
+fn begin<R: Abort>(rt: &R, heap: Global, seed: u64) -> Histories<'_, R> {
+    Histories {
+        rt,
+        heap,
+        random: Random { state: seed },
+        tally: Tally::new(heap),
+    }
 }
 
 // Every number that a call of a session can be refused with on an arena: 60 to 62 can't come, as each number is new, no formula
 // has a higher variable and no clause is wider.
-const ARENA: [usize; 25] = [
+const ARENA: [u8; 25] = [
     10, 11, 12, 24, 25, 27, 33, 40, 41, 42, 43, 44, 45, 46, 47, 48, 63, 64, 65, 66, 70, 71, 72, 80,
     81,
 ];
 
+// Two tests that differ in the kind and the numbers; a closure for it would be longer.
 #[test]
 fn histories_on_arenas(rt: HostRuntime) -> Result<(), Fail> {
-    let mut trial = trial(rt.alloc(), 0x9e37_79b9_7f4a_7c15);
+    let mut histories = begin(&rt, rt.alloc(), 0x9e37_79b9_7f4a_7c15);
     for _ in 0..HISTORIES {
-        let plan = some_plan(&mut trial.random);
-        on_arena(&rt, rt.alloc(), &mut trial, &plan)?;
+        histories.on_arena()?;
     }
-    trial.tally.print(&rt)?;
-    trial.tally.holds(&rt, &ARENA);
+    histories.tally.print(&rt)?;
+    histories.end(&ARENA);
     Ok(())
 }
 
 // On a bitmask database 61 comes; 45, 64 and 81 can't, as 64 variables make no wider resolvent, and 256 clauses of them neither more
 // literals nor a longer text.
-const BITMASK: [usize; 23] = [
+const BITMASK: [u8; 23] = [
     10, 11, 12, 24, 25, 27, 33, 40, 41, 42, 43, 44, 46, 47, 48, 61, 63, 65, 66, 70, 71, 72, 80,
 ];
 
 #[test]
 fn histories_on_bitmask_databases(rt: HostRuntime) -> Result<(), Fail> {
-    let mut trial = trial(rt.alloc(), 0x2545_f491_4f6c_dd1d);
+    let mut histories = begin(&rt, rt.alloc(), 0x2545_f491_4f6c_dd1d);
     for _ in 0..HISTORIES {
-        let plan = some_plan(&mut trial.random);
-        on_bitmask(&rt, rt.alloc(), &mut trial, &plan)?;
+        histories.on_bitmask()?;
     }
-    trial.tally.print(&rt)?;
-    trial.tally.holds(&rt, &BITMASK);
+    histories.tally.print(&rt)?;
+    histories.end(&BITMASK);
     Ok(())
 }

@@ -1,6 +1,10 @@
 -- Checks in order, followed one by one, and what a read clause tells of its number.
-use Rattle.std.proofs.Common.{◌≡◌, ℕ, Bool, true, false, List, ℤ, Some, None, Option, sym, ap, arith}
+use Rattle.std.proofs.Common.{◌≡◌, ℕ, Bool, true, false, List, ℤ, Some, None, Ok, Err, Option, Result, sym, ap, ◌∙◌, arith}
 use Rattle.std.proofs.lemmas.Bool.Decides.{nat_tests}
+use Rattle.std.specs.Option.{option_map, ok_or}
+use Rattle.words.specs.declared.clause.Clause.{Clause}
+use Rattle.words.specs.declared.fault.SessionFault.{SessionFault}
+use Rattle.words.specs.Meanings.{lits_of}
 use Rattle.words.specs.Checks.{check, ◌then◌}
 use Rattle.words.specs.Standing.{Entry, stands, under}
 use Rattle.rules.specs.Lines.{clause_under}
@@ -29,3 +33,12 @@ there k c s e = stands_under k c s (sym e)
 
 pub read_is : (k : ℕ) (c : List ℤ) (s : List Entry) → Some c ≡ under k s → clause_under k s ≡ c
 read_is k c s e = clause_under_is k c s (sym e)
+
+-- a clause that is read, or the fault that tells that there is none
+pub read : (o : Option Clause) (f : SessionFault) (x : Clause) (u : Option (List ℤ)) → ◌≡◌ {A = Result Clause SessionFault} (Ok x) (ok_or o f) → option_map lits_of o ≡ u → Some (lits_of x) ≡ u
+read None f x u p q = absurd (let z : ◌≡◌ {A = ℕ} 0 1 = cc in omega arith)
+read (Some y) f x u p q = let e : x ≡ y = cc in ap (λ c. Some (lits_of c)) e ∙ q
+
+pub unread : (o : Option Clause) (f h : SessionFault) (u : Option (List ℤ)) → ◌≡◌ {A = Result Clause SessionFault} (Err h) (ok_or o f) → option_map lits_of o ≡ u → (None ≡ u) × (h ≡ f)
+unread None f h u p q = (q, cc)
+unread (Some y) f h u p q = absurd (let z : ◌≡◌ {A = ℕ} 0 1 = cc in omega arith)

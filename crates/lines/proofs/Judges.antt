@@ -1,15 +1,15 @@
 -- The rules of S and B followed check by check.
-use Rattle.std.proofs.Common.{◌≡◌, ℕ, ◌<◌, Bool, true, false, cond, not, ◌&&◌, eqb, List, ℤ, neg_ℤ, Some, None, Option, sym, ap, ◌∙◌, ⊎_elim, arith}
+use Rattle.std.proofs.Common.{◌≡◌, ℕ, true, false, not, ◌&&◌, eqb, List, [], ◌∷◌, ℤ, neg_ℤ, Some, None, Option, refl, sym, ap, ◌∙◌, ⊎_elim, arith}
+use Rattle.std.specs.List.{find}
+use Rattle.std.specs.Option.{option_map}
 use Rattle.std.proofs.lemmas.Bool.{cases_eq}
 use Rattle.std.proofs.lemmas.Bool.Decides.{nat_tests}
 use Rattle.words.specs.declared.fault.SessionFault.TheVariants.{Missing, Lacking, NotSubsumed, NotBlocked}
 use Rattle.words.specs.declared.fault.DatabaseFault.{DatabaseFault}
 use Rattle.words.specs.Checks.{check, inside, unless}
 use Rattle.words.specs.Clauses.{has, subset, opposed, resolvent}
-use Rattle.words.specs.Standing.{Entry, stands, under, without, ordered, next_above}
+use Rattle.words.specs.Standing.{Entry, stands, under, without}
 use Rattle.rules.specs.Lines.{clause_under, subsumed_fault, blocked_fault, first_unblocked}
-use Rattle.database.specs.Walks.{above}
-use Rattle.database.proofs.Walks.{Step, next_step, above_end}
 use Rattle.acceptance.proofs.Passing.{passed}
 use Rattle.lines.specs.Judging.{s_line, b_line}
 use Rattle.lines.proofs.Faults.{on, off, last_on, last_off, missing, there, read_is}
@@ -73,38 +73,10 @@ module _ (k : ℕ) (z : ℤ) (s : List Entry) where
       pub b_passes : None ≡ first_unblocked z c s → (blocked_fault s (b_line k z) ≡ None) × (c ≡ clause_under k s)
       b_passes e = (walk ∙ ap (inside NotBlocked) (sym e), sym (read_is k c s ec))
 
--- ── The walk of B ──
+-- ── The search of B ──
 
--- at the next number m, whose clause is d
-module _ (z : ℤ) (c : List ℤ) (n w k m : ℕ) (s : List Entry) (o : ordered n w 0 s ≡ true) (e : Some m ≡ next_above k s) (inv : first_unblocked z c (above k s) ≡ first_unblocked z c s) where
-  step : Step k m s
-  step = next_step n w 0 k m s o (sym e)
-
-  pub rises : k < m
-  rises = step.rises
-
-  -- some clause is read there
-  pub read_there : None ≡ under m s → ⊥
-  read_there q = let f = step.found in let z0 : ◌≡◌ {A = ℕ} 0 1 = cc in omega arith
-
-  module _ (d : List ℤ) (q : Some d ≡ under m s) where
-    is_d : step.lits ≡ d
-    is_d = let f = step.found in cc
-
-    opened : first_unblocked z c (above k s) ≡ cond (has (neg_ℤ z) d && not (opposed (resolvent z c d))) (Some m) (first_unblocked z c (above m s))
-    opened = ap (first_unblocked z c) step.split ∙ ap (λ x. cond (has (neg_ℤ z) x && not (opposed (resolvent z c x))) (Some m) (first_unblocked z c (above m s))) is_d
-
-    pub walk_stops : true ≡ (has (neg_ℤ z) d && not (opposed (resolvent z c d))) → Some m ≡ first_unblocked z c s
-    walk_stops t = sym (sym inv ∙ opened ∙ ap (λ x. cond x (Some m) (first_unblocked z c (above m s))) (sym t))
-
-    pub walk_goes : false ≡ (has (neg_ℤ z) d && not (opposed (resolvent z c d))) → first_unblocked z c (above m s) ≡ first_unblocked z c s
-    walk_goes t = sym (ap (λ x. cond x (Some m) (first_unblocked z c (above m s))) (sym t)) ∙ sym opened ∙ inv
-
-pub walk_ends : (z : ℤ) (c : List ℤ) (k : ℕ) (s : List Entry) → None ≡ next_above k s → first_unblocked z c (above k s) ≡ first_unblocked z c s → None ≡ first_unblocked z c s
-walk_ends z c k s e inv = sym (ap (first_unblocked z c) (above_end k s (sym e))) ∙ inv
-
--- a clause that holds the negated pivot is unblocked where the look-up finds no clash
-pub unblocked_is : (z m : ℤ) (c d : List ℤ) (r : Bool) → m ≡ neg_ℤ z → true ≡ has m d → opposed (resolvent z c d) ≡ r → not r ≡ (has (neg_ℤ z) d && not (opposed (resolvent z c d)))
-unblocked_is z m c d r e h o =
-    let p : has (neg_ℤ z) d ≡ true = ap (λ x. has x d) (sym e) ∙ sym h in
-    sym (ap (λ x. x && not (opposed (resolvent z c d))) p ∙ ap not o)
+-- the first standing clause with the negated pivot whose resolvent holds no opposite pair
+pub unblocked_found : (z : ℤ) (c : List ℤ) (s : List Entry) →
+    option_map (λ (e : Entry). e.number) (find (λ (e : Entry). has (neg_ℤ z) e.lits && not (opposed (resolvent z c e.lits))) s) ≡ first_unblocked z c s
+unblocked_found z c [] = refl
+unblocked_found z c (e ∷ s) = let ih = unblocked_found z c s in grind (arith, nat_tests)

@@ -2,10 +2,13 @@
 use Rattle.std.proofs.Common.{◌≡◌, ℕ, ◌<◌, Bool, true, false, cond, not, ltb, leb, List, length, ℤ, neg_ℤ, Some, None, Option, sym, refl, ap, ◌∙◌, arith}
 use Rattle.std.proofs.lemmas.Bool.Decides.{nat_tests}
 use Rattle.words.specs.declared.fault.SessionFault.TheVariants.{Missing, Lacking, Tautology, ResolventTooWide}
+use Rattle.std.specs.Option.{option_map, ok_or}
+use Rattle.words.specs.declared.clause.Clause.{Clause}
+use Rattle.words.specs.Meanings.{lits_of}
 use Rattle.words.specs.Clauses.{has, opposed, resolvent}
 use Rattle.words.specs.Standing.{Entry, stands, under}
 use Rattle.rules.specs.Lines.{clause_under, line_resolvent, resolve_fault}
-use Rattle.lines.specs.Judging.{r_line}
+use Rattle.lines.specs.Judging.{r_line, ResolveJudged}
 use Rattle.lines.proofs.Faults.{on, off, missing, there, read_is}
 
 -- what a clause that is there, or not, tells of its width
@@ -80,3 +83,9 @@ module _ (given k : ℕ) (z : ℤ) (i j : ℕ) (s : List Entry) (above : given <
                 let t = ap length named in
                 let w = narrow_some (leb (length (resolvent z a b)) 64) (resolvent z a b) c e in
                 (width ∙ ap (λ x. cond (leb x 64) None (Some (ResolventTooWide i j))) t ∙ ap (λ x. cond x None (Some (ResolventTooWide i j))) w.0, w.1 ∙ sym named)
+
+            -- a resolvent or none, handed on as the answer of the line
+            pub built : (r : Option Clause) → option_map lits_of r ≡ cond (leb (length (resolvent z a b)) 64) (Some (resolvent z a b)) None →
+                ResolveJudged given s (r_line k z i j) (ok_or r (ResolventTooWide i j))
+            built None e = too_wide e
+            built (Some c) e = derived (lits_of c) e

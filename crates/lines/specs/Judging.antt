@@ -10,11 +10,15 @@ use Rattle.words.specs.declared.limits.Limits.{Limits}
 use Rattle.words.specs.declared.fault.SessionFault.TheVariants.{Database, Stack}
 use Rattle.words.specs.Checks.{◌then◌, inside}
 use Rattle.rules.specs.Restoring.{Saved, Room, save_fault}
+use Rattle.lines.specs.declared.steps.Resolution.{Resolution}
 use Rattle.rules.specs.Lines.{clause_under, line_resolvent, resolve_fault, blocked_fault, rule_fault, space_fault, line_saves}
 
 -- the lines of the kinds R, S and B, by the fields that they use
 abbrev pub r_line : ℕ → ℤ → ℕ → ℕ → Line
 r_line k z a b = record { kind = Resolve; clause = k; pivot = z; first = a; second = b }
+
+abbrev pub resolution_line : Resolution → Line
+resolution_line r = r_line r.number.value r.pivot.value r.first.value r.second.value
 
 abbrev pub s_line : ℕ → ℕ → Line
 s_line k a = record { kind = Subsumed; clause = k; pivot = pos 0; first = a; second = 0 }

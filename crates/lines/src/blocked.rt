@@ -2,51 +2,34 @@
 ghost use Rattle.std.specs.Prelude.{◌≡◌, not, ◌&&◌, ◌++◌, replicate, neg_ℤ};
 ghost use Rattle.words.specs.Clauses.{has, opposed, resolvent};
 ghost use Rattle.words.specs.Checks.{fault_of, unless};
-ghost use Rattle.words.specs.Marks.{Marked};
 ghost use Rattle.words.specs.Meanings.{lits_of};
 ghost use Rattle.words.specs.Standing.{without};
+ghost use Rattle.marking.specs.Holding.{Holds};
 ghost use Rattle.rules.specs.Lines.{first_unblocked, line_saves};
 ghost use Rattle.reconstruction.specs.Meanings.{saved, room_of};
 ghost use Rattle.lines.specs.Judging.{b_line, blocked_refused, BlockedJudged};
 
-use database::ClauseDatabase;
+use database::{ClauseDatabase, standing};
 use marking::Marks;
 use reconstruction::ReconstructionStack;
 use words::{Clause, ClauseNumber, Literal, SessionFault};
 
 // Whether a clause holds the negated pivot and its resolvent with the marked clause holds no opposite pair.
-fn unblocked(marks: &Marks<'_>, clause: &Clause, other: &Clause, pivot: Literal) -> bool
-    requires marked { Marked 512 marks.now.bytes.now (lits_of clause.now) }
-    ensures { result ≡ (has (neg_ℤ pivot.value) (lits_of other.now) && not (opposed (resolvent pivot.value (lits_of clause.now) (lits_of other.now)))) }
+fn unblocked(marks: &Marks<'_>, other: &Clause, pivot: Literal) -> bool
+    requires { Holds marks.now.bytes.now marks.now.clause.now }
+    ensures { result ≡ (has (neg_ℤ pivot.value) (lits_of other.now) && not (opposed (resolvent pivot.value (lits_of marks.now.clause.now) (lits_of other.now)))) }
 {
-    let opposite = pivot.negated();
-    if !other.has(opposite) {
-        return false;
-    }
-    !marks.clash(other, opposite)
+    other.has(pivot.negated()) && !marks.clash(other, pivot)
 }
 
 // The lowest number of a standing clause against which the marked clause is not blocked.
-fn first_unblocked<D: ClauseDatabase>(
-    db: &D,
-    marks: &Marks<'_>,
-    clause: &Clause,
-    pivot: Literal,
-) -> Option<u32>
-    requires marked { Marked 512 marks.now.bytes.now (lits_of clause.now) }
-    ensures { result ≡ first_unblocked pivot.value (lits_of clause.now) (D.standing db.now) }
+fn first_unblocked<D: ClauseDatabase>(db: &D, marks: &Marks<'_>, pivot: Literal) -> Option<u32>
+    requires { Holds marks.now.bytes.now marks.now.clause.now }
+    ensures { result ≡ first_unblocked pivot.value (lits_of marks.now.clause.now) (D.standing db.now) }
 {
-    db.lawful();
-    let mut above = 0;
-    while let Some(k) = db.next(above) {
-        if let Some(d) = db.clause(k) {
-            if unblocked(marks, clause, &d, pivot) {
-                return Some(k.value);
-            }
-        }
-        above = k.value;
-    }
-    None
+    standing(db)
+        .find(|entry| unblocked(marks, &entry.clause, pivot))
+        .map(|entry| entry.number.value)
 }
 
 // Judges the line with nothing changed: the clause that it takes away, or why it is refused.
@@ -60,15 +43,14 @@ fn judge<D: ClauseDatabase>(
     ensures judged { BlockedJudged (D.standing db.now) (b_line clause.value pivot.value) result }
     ensures marks { bytes.new ≡ replicate 1024 0 }
 {
-    let Some(c) = db.clause(clause) else {
-        return Err(SessionFault::Missing(clause.value));
-    };
+    let c = db
+        .clause(clause)
+        .ok_or(SessionFault::Missing(clause.value))?;
     if !c.has(pivot) {
         return Err(SessionFault::Lacking(clause.value));
     }
-    let mut marks = Marks::over(bytes);
-    marks.mark(&c);
-    match first_unblocked(db, &marks, &c, pivot) {
+    let marks = Marks::of(bytes, &c);
+    match first_unblocked(db, &marks, pivot) {
         Some(k) => Err(SessionFault::NotBlocked(k)),
         None => Ok(c),
     }
@@ -92,6 +74,7 @@ pub(crate) fn blocked<D: ClauseDatabase>(
 {
     let saves = judge(db, bytes, clause, pivot)?;
     stack.save(pivot, &saves)?;
+    // It stands, so nothing is refused.
     let _ = db.remove(clause);
     Ok(())
 }

@@ -18,7 +18,10 @@ use marking::clean;
 use reconstruction::ReconstructionStack;
 use words::{Line, SessionFault};
 
-// Carries a step out by the rule of its kind, or refuses it and changes nothing.
+// Carries a step out by the rule of its kind, or refuses it and changes nothing. That the marks are clean stays a `requires`, here and
+// in the rules: the borrow checker doesn't cover a struct around the lent bytes with that as a ghost field where it is handed on, and
+// what is in the bytes after a loan of them is then not known. That limits and room stay is said by each call: its callers know no more
+// of a database than that.
 fn carry_step<D: ClauseDatabase>(
     db: &mut D,
     stack: &mut ReconstructionStack<'_>,
@@ -35,12 +38,10 @@ fn carry_step<D: ClauseDatabase>(
     ensures marks { marks.new ≡ replicate 1024 0 }
 {
     match step {
-        Step::Resolve(number, pivot, first, second) => resolve(
-            db, marks, given, number, pivot, first, second,
-        ),
-        Step::Subsumed(number, first) => subsumed(db, marks, number, first),
-        Step::Blocked(number, pivot) => blocked(db, stack, marks, number, pivot),
-        Step::Eliminate(pivot) => eliminate(db, stack, marks, pivot),
+        Step::Resolve(line) => resolve(db, marks, given, line),
+        Step::Subsumed { clause, first } => subsumed(db, marks, clause, first),
+        Step::Blocked { clause, pivot } => blocked(db, stack, marks, clause, pivot),
+        Step::Eliminate { pivot } => eliminate(db, stack, marks, pivot),
     }
 }
 
@@ -64,8 +65,6 @@ pub fn carry_out<D: ClauseDatabase>(
     if !clean(marks) {
         return Err(SessionFault::MarksDirty);
     }
-    match typed(line) {
-        Ok(step) => carry_step(db, stack, marks, given, step),
-        Err(fault) => Err(fault),
-    }
+    let step = typed(line)?;
+    carry_step(db, stack, marks, given, step)
 }

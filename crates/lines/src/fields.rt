@@ -1,101 +1,51 @@
 // The fields of a line: the first that is wrongly zero, wrongly filled or out of range refuses it.
-ghost use Rattle.std.specs.Prelude.{◌≡◌, false, MatchOption};
-ghost use Rattle.words.specs.declared.line.Kind.TheVariants.{Resolve, Subsumed, Blocked, Eliminate};
-ghost use Rattle.words.specs.Literals.{literal_ok};
-ghost use Rattle.lines.specs.Submitting.{Typed};
+ghost use Rattle.std.specs.Prelude.{◌≡◌};
+ghost use Rattle.words.specs.declared.line.Field.TheVariants.{Pivot};
+ghost use Rattle.words.specs.declared.line.Kind.TheVariants.{Resolve};
+ghost use Rattle.words.specs.Literals.{literal_ok, number_ok};
+ghost use Rattle.lines.specs.Submitting.{Demands, Reads, Typed};
 
-use crate::steps::Step;
-use words::{ClauseNumber, Kind, Line, Literal, SessionFault};
+use crate::steps::{Resolution, Step};
+use words::{ClauseNumber, Field, Kind, Line, Literal, SessionFault};
 
-// The literal of a pivot field, or none where there is no such literal.
-fn literal(pivot: i32) -> Option<Literal>
-    ensures { MatchOption result (literal_ok 512 pivot ≡ false) (λ l. l.value ≡ pivot) }
+// The clause number of a field.
+fn clause_number(field: Field, value: u32) -> Result<ClauseNumber, SessionFault>
+    ensures { Reads (λ k. k.value) number_ok field value result }
 {
-    if pivot == 0 || pivot < -512 || pivot > 512 {
-        return None;
-    }
-    Some(Literal {
-        value: pivot as i16,
-    })
+    ClauseNumber::try_from(value).map_err(|_| SessionFault::FieldWrong(field))
 }
 
-fn resolve_step(line: &Line) -> Result<Step, SessionFault>
-    requires { line.now.kind ≡ Resolve }
-    ensures { Typed line.now result }
+// The literal of the pivot's field.
+fn literal(value: i32) -> Result<Literal, SessionFault>
+    ensures { Reads (λ l. l.value) (literal_ok 512) Pivot value result }
 {
-    let Some(number) = ClauseNumber::new(line.clause) else {
-        return Err(SessionFault::FieldWrong(2));
-    };
-    let Some(pivot) = literal(line.pivot) else {
-        return Err(SessionFault::FieldWrong(3));
-    };
-    let Some(first) = ClauseNumber::new(line.first) else {
-        return Err(SessionFault::FieldWrong(4));
-    };
-    let Some(second) = ClauseNumber::new(line.second) else {
-        return Err(SessionFault::FieldWrong(5));
-    };
-    Ok(Step::Resolve(number, pivot, first, second))
+    Literal::try_from(value).map_err(|_| SessionFault::FieldWrong(Field::Pivot))
 }
 
-fn subsumed_step(line: &Line) -> Result<Step, SessionFault>
-    requires { line.now.kind ≡ Subsumed }
-    ensures { Typed line.now result }
+// Refuses a field that is not as its kind wants it.
+fn demand(field: Field, fits: bool) -> Result<(), SessionFault>
+    ensures { Demands field fits result }
 {
-    let Some(number) = ClauseNumber::new(line.clause) else {
-        return Err(SessionFault::FieldWrong(2));
-    };
-    if line.pivot != 0 {
-        return Err(SessionFault::FieldWrong(3));
+    if fits {
+        return Ok(());
     }
-    let Some(first) = ClauseNumber::new(line.first) else {
-        return Err(SessionFault::FieldWrong(4));
-    };
-    if line.second != 0 {
-        return Err(SessionFault::FieldWrong(5));
-    }
-    Ok(Step::Subsumed(number, first))
+    Err(SessionFault::FieldWrong(field))
 }
 
-fn blocked_step(line: &Line) -> Result<Step, SessionFault>
-    requires { line.now.kind ≡ Blocked }
-    ensures { Typed line.now result }
+// The fields of an R line as a step, or why they are refused.
+fn resolution(line: &Line) -> Result<Step, SessionFault>
+    ensures { line.now.kind ≡ Resolve → Typed line.now result }
 {
-    let Some(number) = ClauseNumber::new(line.clause) else {
-        return Err(SessionFault::FieldWrong(2));
-    };
-    let Some(pivot) = literal(line.pivot) else {
-        return Err(SessionFault::FieldWrong(3));
-    };
-    if line.first != 0 {
-        return Err(SessionFault::FieldWrong(4));
-    }
-    if line.second != 0 {
-        return Err(SessionFault::FieldWrong(5));
-    }
-    Ok(Step::Blocked(number, pivot))
-}
-
-fn eliminate_step(line: &Line) -> Result<Step, SessionFault>
-    requires { line.now.kind ≡ Eliminate }
-    ensures { Typed line.now result }
-{
-    if line.clause != 0 {
-        return Err(SessionFault::FieldWrong(2));
-    }
-    let Some(pivot) = literal(line.pivot) else {
-        return Err(SessionFault::FieldWrong(3));
-    };
-    if !pivot.is_positive() {
-        return Err(SessionFault::FieldWrong(3));
-    }
-    if line.first != 0 {
-        return Err(SessionFault::FieldWrong(4));
-    }
-    if line.second != 0 {
-        return Err(SessionFault::FieldWrong(5));
-    }
-    Ok(Step::Eliminate(pivot))
+    let number = clause_number(Field::Clause, line.clause)?;
+    let pivot = literal(line.pivot)?;
+    let first = clause_number(Field::First, line.first)?;
+    let second = clause_number(Field::Second, line.second)?;
+    Ok(Step::Resolve(Resolution {
+        number,
+        pivot,
+        first,
+        second,
+    }))
 }
 
 // The fields of a line as a step, or why they are refused.
@@ -103,9 +53,28 @@ pub(crate) fn typed(line: &Line) -> Result<Step, SessionFault>
     ensures { Typed line.now result }
 {
     match line.kind {
-        Kind::Resolve => resolve_step(line),
-        Kind::Subsumed => subsumed_step(line),
-        Kind::Blocked => blocked_step(line),
-        Kind::Eliminate => eliminate_step(line),
+        Kind::Resolve => resolution(line),
+        Kind::Subsumed => {
+            let clause = clause_number(Field::Clause, line.clause)?;
+            demand(Field::Pivot, line.pivot == 0)?;
+            let first = clause_number(Field::First, line.first)?;
+            demand(Field::Second, line.second == 0)?;
+            Ok(Step::Subsumed { clause, first })
+        }
+        Kind::Blocked => {
+            let clause = clause_number(Field::Clause, line.clause)?;
+            let pivot = literal(line.pivot)?;
+            demand(Field::First, line.first == 0)?;
+            demand(Field::Second, line.second == 0)?;
+            Ok(Step::Blocked { clause, pivot })
+        }
+        Kind::Eliminate => {
+            demand(Field::Clause, line.clause == 0)?;
+            let pivot = literal(line.pivot)?;
+            demand(Field::Pivot, pivot.is_positive())?;
+            demand(Field::First, line.first == 0)?;
+            demand(Field::Second, line.second == 0)?;
+            Ok(Step::Eliminate { pivot })
+        }
     }
 }

@@ -1,14 +1,29 @@
 use words::{ClauseNumber, Literal};
 
+// The fields of an R line: the new number, the pivot and the two parents.
+#[derive(Clone, Copy)]
+pub(crate) struct Resolution {
+    pub(crate) number: ClauseNumber,
+    pub(crate) pivot: Literal,
+    pub(crate) first: ClauseNumber,
+    pub(crate) second: ClauseNumber,
+}
+
 // A line whose fields are in range: each field that its kind uses, as the word that it is.
 #[derive(Clone, Copy)]
 pub(crate) enum Step {
-    // the new number, the pivot, the two parents
-    Resolve(ClauseNumber, Literal, ClauseNumber, ClauseNumber),
+    Resolve(Resolution),
     // the clause, and the one that subsumes it
-    Subsumed(ClauseNumber, ClauseNumber),
-    // the clause and its pivot
-    Blocked(ClauseNumber, Literal),
+    Subsumed {
+        clause: ClauseNumber,
+        first: ClauseNumber,
+    },
+    Blocked {
+        clause: ClauseNumber,
+        pivot: Literal,
+    },
     // the variable, as its positive literal
-    Eliminate(Literal),
+    Eliminate {
+        pivot: Literal,
+    },
 }

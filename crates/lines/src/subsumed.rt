@@ -20,17 +20,14 @@ fn judge<D: ClauseDatabase>(
     ensures fault { fault_of result ≡ subsumed_fault (D.standing db.now) (s_line clause.value first.value) }
     ensures marks { bytes.new ≡ replicate 1024 0 }
 {
-    let Some(c) = db.clause(clause) else {
-        return Err(SessionFault::Missing(clause.value));
-    };
-    let Some(d) = db.clause(first) else {
-        return Err(SessionFault::Missing(first.value));
-    };
-    if clause.value == first.value {
+    let c = db
+        .clause(clause)
+        .ok_or(SessionFault::Missing(clause.value))?;
+    let d = db.clause(first).ok_or(SessionFault::Missing(first.value))?;
+    if clause == first {
         return Err(SessionFault::NotSubsumed(clause.value, first.value));
     }
-    let mut marks = Marks::over(bytes);
-    marks.mark(&c);
+    let marks = Marks::of(bytes, &c);
     if !marks.cover(&d) {
         return Err(SessionFault::NotSubsumed(clause.value, first.value));
     }
@@ -51,6 +48,7 @@ pub(crate) fn subsumed<D: ClauseDatabase>(
     ensures marks { bytes.new ≡ replicate 1024 0 }
 {
     judge(db, bytes, clause, first)?;
+    // It stands, so nothing is refused.
     let _ = db.remove(clause);
     Ok(())
 }

@@ -1,7 +1,9 @@
 -- Numbers that are no literals of the formula.
-use Rattle.std.proofs.Common.{◌≡◌, ℕ, zero, suc, ◌+◌, ◌<◌, ◌≤◌, ◌⊎◌, List, [], ◌∷◌, length, get_or, drop, ℤ, pos, nat_abs, Some, None, sym, refl, ◌∙◌, ⊎_elim, arith}
-use Rattle.std.proofs.lemmas.List.{at_drop_more, at_drop_all}
+use Rattle.std.proofs.Common.{◌≡◌, ℕ, not, zero, suc, ◌+◌, ◌<◌, ◌≤◌, List, [], ◌∷◌, length, get_or, ℤ, pos, nat_abs, None, refl, arith}
 use Rattle.std.proofs.lemmas.Bool.Decides.{nat_tests}
+use Rattle.std.specs.List.{position_from}
+use Rattle.std.specs.Option.{option_map}
+use Rattle.words.specs.Literals.{literal_ok}
 use Rattle.rules.specs.Loading.{beyond_at}
 
 -- where none is beyond, each is a literal
@@ -15,15 +17,10 @@ pub beyond_wider : (n m k : ℕ) (zs : List ℤ) → n ≤ m → beyond_at n k z
 beyond_wider n m k [] h b = refl
 beyond_wider n m k (z ∷ zs) h b = let ih = beyond_wider n m (k + 1) zs h in grind (arith, nat_tests, ih)
 
--- the search at a place, where v is the variable there
-module _ (n : ℕ) (zs : List ℤ) (i : ℕ) (inv : beyond_at n i (drop i zs) ≡ beyond_at n 0 zs) where
-  pub beyond_hit : (v : ℕ) → v ≡ nat_abs (get_or zs i (pos 0)) → i < length zs → (v ≡ 0) ⊎ ((v ≡ 0 → ⊥) × (n < v)) → Some (i + 1) ≡ beyond_at n 0 zs
-  beyond_hit v e h q =
-      let d = at_drop_more (beyond_at n i) zs i (pos 0) h in
-      ⊎_elim (λ (w : v ≡ 0). grind (arith, nat_tests)) (λ (w : (v ≡ 0 → ⊥) × (n < v)). let u : n < v = w.1 in grind (arith, nat_tests)) q
+-- the search counts its position from 1
+beyond_counted : (n i : ℕ) (zs : List ℤ) → option_map (λ k. k + 1) (position_from (λ z. not (literal_ok n z)) i zs) ≡ beyond_at n i zs
+beyond_counted n i [] = refl
+beyond_counted n i (z ∷ zs) = let ih = beyond_counted n (i + 1) zs in grind (arith, nat_tests)
 
-  pub beyond_miss : (v : ℕ) → v ≡ nat_abs (get_or zs i (pos 0)) → i < length zs → (v ≡ 0 → ⊥) → v ≤ n → beyond_at n (i + 1) (drop (i + 1) zs) ≡ beyond_at n 0 zs
-  beyond_miss v e h p q = let d = at_drop_more (beyond_at n i) zs i (pos 0) h in grind (arith, nat_tests)
-
-  pub beyond_end : length zs ≤ i → None ≡ beyond_at n 0 zs
-  beyond_end h = sym (at_drop_all (beyond_at n i) zs i h) ∙ inv
+pub beyond_position : (n : ℕ) (zs : List ℤ) → option_map (λ k. k + 1) (position_from (λ z. not (literal_ok n z)) 0 zs) ≡ beyond_at n 0 zs
+beyond_position n zs = beyond_counted n 0 zs

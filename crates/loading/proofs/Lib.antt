@@ -1,4 +1,3 @@
 pub mod Beyond
 pub mod Pairs
 pub mod Gathers
-pub mod Begins

@@ -1,30 +1,37 @@
 ghost use Rattle.std.specs.Prelude.{◌≡◌, ◌≤◌, false, None};
 ghost use Rattle.words.specs.Clauses.{opposed};
 ghost use Rattle.rules.specs.Loading.{beyond_at};
+ghost use Rattle.words.specs.Literals.{literal_ok};
 ghost use Rattle.loading.specs.Judging.{Gathered, Judged};
+ghost use Rattle.loading.specs.Meanings.{formula_variables, loaded_count};
 
+use crate::Loading;
 use words::{Clause, Literal, SessionFault};
 
-// The position of the first number that is no literal of this many variables.
+// Whether a number is a literal of this many variables.
+fn is_literal(x: i16, variables: u16) -> bool
+    ensures { result ≡ literal_ok variables x }
+{
+    x != 0 && x.unsigned_abs() <= variables
+}
+
+// The position, from 1, of the first number that is no literal of this many variables.
 fn first_beyond(list: &[i16], variables: u16) -> Option<usize>
     ensures { result ≡ beyond_at variables 0 list.now }
 {
-    for (i, x) in list.iter().enumerate() {
-        let v = x.unsigned_abs();
-        if v == 0 || v > variables {
-            return Some(i + 1);
-        }
-    }
-    None
+    list.iter()
+        .position(|x| !is_literal(*x, variables))
+        .map(|i| i + 1)
 }
 
-// Whether a list holds a literal and its negation.
+// Whether a list holds a literal and its negation. Marks, and not a look back from each literal: a list may have tens of thousands.
 fn holds_opposite_pair(list: &[i16]) -> bool
     requires { beyond_at 512 0 list.now ≡ None }
     ensures { result ≡ opposed list.now }
 {
     let mut marks = [0u8; 1024];
     for x in list {
+        // no `try_from`, here and below: every number of the list is known to be a literal, so its error could never come
         let l = Literal { value: *x };
         let n = l.negated();
         if marks[n.mark_place()] == 1 {
@@ -35,7 +42,8 @@ fn holds_opposite_pair(list: &[i16]) -> bool
     false
 }
 
-// The clause of a list, or the position of its 65th different literal.
+// The clause of a list, or the position of its 65th different literal. A loop, and not a chain: of a clause that a chain's closure
+// changes nothing would be known.
 fn gather(list: &[i16]) -> Result<Clause, usize>
     requires literals { beyond_at 512 0 list.now ≡ None }
     requires apart { opposed list.now ≡ false }
@@ -50,28 +58,23 @@ fn gather(list: &[i16]) -> Result<Clause, usize>
     Ok(clause)
 }
 
-// Judges a list for a formula of this many variables, where so many lists were accepted before: all that can be said before the
-// database is asked.
-pub(crate) fn judge(
-    list: &[i16],
-    variables: u16,
-    loaded: u16,
-) -> Result<Option<Clause>, SessionFault>
-    requires { variables ≤ 512 }
-    ensures { Judged variables loaded list.now result }
-{
-    if loaded >= 1024 {
-        return Err(SessionFault::LoadedFull);
-    }
-    if let Some(position) = first_beyond(list, variables) {
-        return Err(SessionFault::LiteralBeyond(position));
-    }
-    if holds_opposite_pair(list) {
-        return Ok(None);
-    }
-    match gather(list) {
-        Ok(clause) => Ok(Some(clause)),
-        Err(position) => Err(SessionFault::TooManyLiterals(position)),
+impl Loading {
+    // Judges a list: all that can be said before the database is asked.
+    pub(crate) fn judge(&self, list: &[i16]) -> Result<Option<Clause>, SessionFault>
+        ensures { Judged (formula_variables self.now) (loaded_count self.now) list.now result }
+    {
+        if self.loaded >= 1024 {
+            return Err(SessionFault::LoadedFull);
+        }
+        if let Some(position) = first_beyond(list, self.variables) {
+            return Err(SessionFault::LiteralBeyond(position));
+        }
+        if holds_opposite_pair(list) {
+            return Ok(None);
+        }
+        gather(list)
+            .map(Some)
+            .map_err(SessionFault::TooManyLiterals)
     }
 }
 
@@ -79,27 +82,33 @@ pub(crate) fn judge(
 mod tests {
     use super::*;
 
-    // The number of the refusal that a judged list gets, or 0.
-    fn refused(judged: Result<Option<Clause>, SessionFault>) -> u8 {
-        match judged {
-            Ok(_) => 0,
-            Err(fault) => fault.refusal().number,
-        }
+    // The number of the refusal that a judged list gets, if any.
+    fn refused(judged: Result<Option<Clause>, SessionFault>) -> Option<u8> {
+        judged.err().map(|fault| fault.refusal().number)
+    }
+
+    // A session of this many variables that has accepted so many lists.
+    fn after(variables: u16, loaded: u16) -> Loading
+        requires variables { variables ≤ 512 }
+        requires loaded { loaded ≤ 1024 }
+        ensures { (formula_variables result ≡ variables) × (loaded_count result ≡ loaded) }
+    {
+        Loading { variables, loaded }
     }
 
     #[test]
     fn checks_in_order(rt: HostRuntime) {
-        assert_eq!(rt; refused(judge(&[0], 2, 1024)), 27);
-        assert_eq!(rt; refused(judge(&[1, -1, 3], 2, 1023)), 24);
-        assert_eq!(rt; refused(judge(&[-32768], 512, 0)), 24);
-        assert_eq!(rt; refused(judge(&[2, 1, -2], 2, 1023)), 0);
+        assert_eq!(rt; refused(after(2, 1024).judge(&[0])), Some(27));
+        assert_eq!(rt; refused(after(2, 1023).judge(&[1, -1, 3])), Some(24));
+        assert_eq!(rt; refused(after(512, 0).judge(&[-32768])), Some(24));
+        assert_eq!(rt; refused(after(2, 1023).judge(&[2, 1, -2])), None);
     }
 
     // The literals 1, 1, 2, 3 and so on up to 65.
     fn counted() -> [i16; 66] {
         let mut list = [1; 66];
-        for i in 1..66 {
-            list[i] = i as i16;
+        for (slot, i) in list[1..].iter_mut().zip(1i16..) {
+            *slot = i;
         }
         list
     }
@@ -107,7 +116,7 @@ mod tests {
     #[test]
     fn at_most_64_literals(rt: HostRuntime) {
         let list = counted();
-        assert_eq!(rt; refused(judge(&list[0..65], 512, 0)), 0);
-        assert_eq!(rt; refused(judge(&list, 512, 0)), 25);
+        assert_eq!(rt; refused(after(512, 0).judge(&list[0..65])), None);
+        assert_eq!(rt; refused(after(512, 0).judge(&list)), Some(25));
     }
 }

@@ -11,31 +11,6 @@ use database::ClauseDatabase;
 use reconstruction::ReconstructionStack;
 use words::SessionFault;
 
-// A session for a formula of this many variables; database and reconstruction stack have to be empty.
-fn begin<D: ClauseDatabase>(
-    variables: u32,
-    db: &D,
-    stack: &ReconstructionStack<'_>,
-) -> Result<Loading, SessionFault>
-    ensures fault { fault_of result ≡ open_fault variables (D.standing db.now) (saved stack.now) }
-    ensures variables { IfOk result (λ s. formula_variables s ≡ variables) }
-    ensures loaded { IfOk result (λ s. loaded_count s ≡ 0) }
-{
-    if db.count() != 0 {
-        return Err(SessionFault::DatabaseNotEmpty);
-    }
-    if stack.count() != 0 {
-        return Err(SessionFault::StackNotEmpty);
-    }
-    if variables > 512 {
-        return Err(SessionFault::TooManyVariables);
-    }
-    Ok(Loading {
-        variables: variables as u16,
-        loaded: 0,
-    })
-}
-
 // Opens a session for a formula of this many variables; database and reconstruction stack have to be empty. A history begins
 // with it.
 pub fn open<D: ClauseDatabase>(
@@ -48,7 +23,20 @@ pub fn open<D: ClauseDatabase>(
     ensures loaded { IfOk result (λ s. loaded_count s ≡ 0) }
     ensures history { IfOk result (λ s. ToLoading (D.limited db.now) (room_of stack.now) (opened variables) (formula_variables s) (loaded_count s) (D.standing db.now) (saved stack.now)) }
 {
-    begin(variables, db, stack)
+    if db.count() != 0 {
+        return Err(SessionFault::DatabaseNotEmpty);
+    }
+    if stack.count() != 0 {
+        return Err(SessionFault::StackNotEmpty);
+    }
+    if variables > 512 {
+        return Err(SessionFault::TooManyVariables);
+    }
+    Ok(Loading {
+        // no `try_from`: the test above has shown that it fits, and a second refusal could never come
+        variables: variables as u16,
+        loaded: 0,
+    })
 }
 
 impl Loading {

@@ -2,12 +2,16 @@
 use Rattle.std.proofs.Common.{◌≡◌, ℕ, ◌+◌, ◌<◌, ◌≤◌, true, false, cond, not, ◌&&◌, ◌||◌, ltb, leb, List, [], ◌∷◌, length, ℤ, neg_ℤ, nat_abs, Some, None, Option, sym, refl, ap, ◌∙◌, subst, ⊎_elim, arith}
 use Rattle.std.proofs.lemmas.Bool.{cases_Bool, true≢false}
 use Rattle.std.proofs.lemmas.Bool.Decides.{nat_tests}
+use Rattle.std.proofs.lemmas.List.{length-take}
+use Rattle.std.specs.Option.{option_map}
+use Rattle.words.specs.declared.clause.Clause.{Clause}
 use Rattle.words.specs.Literals.{same}
+use Rattle.words.specs.Meanings.{lits_of}
 use Rattle.words.specs.Clauses.{has, rising, insert, opposed, resolvent}
 use Rattle.words.proofs.Inserts.{rising_insert}
 use Rattle.acceptance.proofs.Sets.{Plain, same_eq, same_ne, same_refl, cases_same, has_insert, has_resolvent_is, opposed_some, opposed_plain, resolvent_nonzero}
 use Rattle.acceptance.proofs.Rising.{rising_nonzero, rising_plain, rising_unique, resolvent_canonical}
-use Rattle.marking.specs.Resolving.{added, clause_resolvent}
+use Rattle.marking.specs.Resolving.{added, Adds, clause_resolvent}
 
 -- what is in the union
 pub has_added : (z e : ℤ) (before xs : List ℤ) → has z (added e before xs) ≡ (has z before || (not (same e z) && has z xs))
@@ -193,3 +197,11 @@ module _ (n : ℕ) (l : ℤ) (a b : List ℤ) (ra : rising n 0 a ≡ true) (rb :
         let w = ap length q in
         let t : leb (length (resolvent l a b)) 64 ≡ true = grind (arith, nat_tests) in
         ap Some q ∙ sym (unopposed l a b o ∙ ap (λ x. cond x (Some (resolvent l a b)) None) t)
+
+-- a clause with both parents in it, or none, is the resolvent
+pub second_added : (l : ℤ) (a b : List ℤ) → rising 512 0 a ≡ true → rising 512 0 b ≡ true → (none one : List ℤ) (m : ℤ) → none ≡ [] → m ≡ neg_ℤ l → one ≡ added l none a →
+    (r : Option Clause) → Adds r (added m one b) → option_map lits_of r ≡ clause_resolvent l a b
+second_added l a b ra rb none one m e f g None h = second_refused 512 l a b ra rb none one m e f g h
+second_added l a b ra rb none one m e f g (Some c) h =
+    let k : length (lits_of c) ≤ 64 = let w = c.few in simp length-take (omega arith) in
+    both_built 512 l a b ra rb none one m e f g (lits_of c) h c.rises k

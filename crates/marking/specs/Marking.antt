@@ -1,17 +1,13 @@
 -- The literal marks that a line is checked with: 1,024 bytes, one for each literal.
 use Rattle.std.specs.Prelude.{ℕ, Bool, true, false, not, ◌&&◌, ◌||◌, List, [], ◌∷◌, length, ℤ, neg_ℤ, ◌==◌, slice_index, slice_set}
+use Rattle.std.specs.List.{list_all}
 use Rattle.words.specs.Literals.{same}
 use Rattle.words.specs.Clauses.{has}
 use Rattle.words.specs.Marks.{mark_place}
 
--- whether every byte is 0
-abbrev pub all_zero : List ℕ → Bool
-all_zero [] = true
-all_zero (b ∷ bs) = b == 0 && all_zero bs
-
 -- whether the marks are clean: 1,024 zeros
 abbrev pub clean_marks : List ℕ → Bool
-clean_marks bs = length bs == 1024 && all_zero bs
+clean_marks bs = length bs == 1024 && list_all (λ b. b == 0) bs
 
 -- whether the negation of some literal of c other than e is in a
 abbrev pub clashes : ℤ → List ℤ → List ℤ → Bool

@@ -1,7 +1,9 @@
 -- The literals of a clause but one, put into another clause one after another; the resolvent of two clauses as a clause.
-use Rattle.std.specs.Prelude.{◌≡◌, ◌<◌, Bool, true, false, cond, List, [], ◌∷◌, length, ℤ, Some, None, Option, nat_le}
+use Rattle.std.specs.Prelude.{◌≡◌, ◌<◌, cond, List, [], ◌∷◌, length, ℤ, Some, None, Option, nat_le}
+use Rattle.words.specs.declared.clause.Clause.{Clause}
 use Rattle.words.specs.Literals.{same}
 use Rattle.words.specs.Clauses.{insert, opposed, resolvent}
+use Rattle.words.specs.Meanings.{lits_of}
 use Rattle.acceptance.proofs.Sets.{Plain}
 
 -- the literals of a list but e, put into those before
@@ -9,15 +11,10 @@ abbrev pub added : ℤ → List ℤ → List ℤ → List ℤ
 added e before [] = before
 added e before (x ∷ xs) = cond (same x e) (added e before xs) (added e (insert x before) xs)
 
--- all found room, and stand there; or there are more than 64 of them
-abbrev pub AddsTo : Bool → List ℤ → List ℤ → Type 0
-AddsTo true sum after = after ≡ sum
-AddsTo false sum after = 64 < length sum
-
--- the same of any literals: all found room, and stand there; or they hold an opposite pair, or there are more than 64 of them
-abbrev pub AddsUnopposed : Bool → List ℤ → List ℤ → Type 0
-AddsUnopposed true sum after = after ≡ sum
-AddsUnopposed false sum after = Plain sum → 64 < length sum
+-- a clause that has them all; or none, where they hold an opposite pair or are more than 64
+abbrev pub Adds : Option Clause → List ℤ → Type 0
+Adds (Some c) sum = lits_of c ≡ sum
+Adds None sum = Plain sum → 64 < length sum
 
 -- the resolvent of a and b on l; none where it holds an opposite pair or has more than 64 literals
 abbrev pub clause_resolvent : ℤ → List ℤ → List ℤ → Option (List ℤ)

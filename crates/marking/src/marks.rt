@@ -1,135 +1,117 @@
-ghost use Rattle.std.specs.Prelude.{◌≡◌, true, length, replicate};
-ghost use Rattle.words.specs.Clauses.{rising};
+ghost use Rattle.std.specs.Prelude.{◌≡◌, ◌==◌, length, neg_ℤ, replicate, true};
+ghost use Rattle.std.specs.List.{list_all};
+ghost use Rattle.words.specs.Clauses.{opposed, resolvent, subset};
 ghost use Rattle.words.specs.Marks.{Marked};
 ghost use Rattle.words.specs.Meanings.{lits_of};
-ghost use Rattle.marking.specs.Marking.{all_zero, clean_marks, marked, with_marks, marks_clash, marks_cover};
+ghost use Rattle.marking.specs.Marking.{clean_marks, marked, with_marks, marks_clash, marks_cover};
+ghost use Rattle.marking.specs.Holding.{Holds};
 
 use words::{Clause, Literal};
 
-// The literal marks while a line is checked: bytes lent to it, which are wiped when it ends.
+// The literal marks of a clause while a line is checked: bytes lent to them, which are wiped when they end. That the bytes hold the
+// clause's literals and no others is no ghost field: what is known of the lent bytes after the wiping would then be lost.
 pub struct Marks<'a> {
     bytes: &'a mut [u8],
+    pub clause: &'a Clause,
 }
 
 impl Drop for Marks<'_> {
     fn drop(self)
         ensures { self.exit.0.now ≡ replicate (length self.entry.bytes.now) 0 }
     {
-        wipe(self.bytes);
-        let Marks { bytes: _ } = self;
+        let Marks { bytes, clause: _ } = self;
+        bytes.fill(0);
     }
-}
-
-// Clears every byte.
-fn wipe(bytes: &mut [u8])
-    ensures { bytes.new ≡ replicate (length bytes.old) 0 }
-{
-    bytes.fill(0);
 }
 
 // Whether every byte is 0.
 fn zeros(bytes: &[u8]) -> bool
-    ensures { result ≡ all_zero bytes.now }
+    ensures { result ≡ list_all (λ b. b == 0) bytes.now }
 {
-    for b in bytes {
-        if *b != 0 {
-            return false;
-        }
-    }
-    true
+    bytes.iter().all(|b| *b == 0)
 }
 
 // Whether the marks are 1,024 zeros.
 pub fn clean(bytes: &[u8]) -> bool
-    ensures { result ≡ clean_marks bytes.now }
+    ensures tells { result ≡ clean_marks bytes.now }
+    ensures zeros { result ≡ true → bytes.now ≡ replicate 1024 0 }
 {
     bytes.len() == 1024 && zeros(bytes)
 }
 
+// Marks each literal of a clause; a place past the end stays unmarked. Loops over a clause's literals for marking and looking up: a
+// rule of the project.
+fn set(bytes: &mut [u8], clause: &Clause)
+    ensures after { bytes.new ≡ with_marks bytes.old (lits_of clause.now) }
+    ensures len { length bytes.new ≡ length bytes.old }
+{
+    for l in clause {
+        // A bound beside the index: of `get_mut` the library doesn't say what the slice ends as.
+        let place = l.mark_place();
+        if place < bytes.len() {
+            bytes[place] = 1;
+        }
+    }
+}
+
 impl<'a> Marks<'a> {
-    // The marks in these bytes.
-    pub fn over(bytes: &'a mut [u8]) -> Marks<'a>
-        ensures { result.bytes ≡ bytes.entry }
+    // Marks each literal of a clause in these bytes; a place past the end stays unmarked.
+    pub fn of(bytes: &'a mut [u8], clause: &'a Clause) -> Marks<'a>
+        ensures after { result.bytes.now ≡ with_marks bytes.old (lits_of clause.now) }
+        ensures clause { lits_of result.clause.now ≡ lits_of clause.now }
+        ensures held { bytes.old ≡ replicate 1024 0 → Holds result.bytes.now result.clause.now }
+        ensures len { length result.bytes.now ≡ length bytes.old }
+        ensures same { result.bytes.ghost_name ≡ bytes.entry.ghost_name }
     {
-        Marks { bytes }
+        set(bytes, clause);
+        Marks { bytes, clause }
     }
 
-    // Marks each literal of a clause; a place past the end stays unmarked.
-    pub fn mark(&mut self, clause: &Clause)
-        ensures after { self.new.bytes.now ≡ with_marks self.old.bytes.now (lits_of clause.now) }
-        ensures marked { self.old.bytes.now ≡ replicate 1024 0 → Marked 512 self.new.bytes.now (lits_of clause.now) }
+    // Marks each literal of a further clause.
+    pub fn mark(&mut self, further: &Clause)
+        ensures after { self.new.bytes.now ≡ with_marks self.old.bytes.now (lits_of further.now) }
+        ensures marked { self.old.bytes.now ≡ replicate 1024 0 → Marked 512 self.new.bytes.now (lits_of further.now) }
+        ensures clause { self.new.clause ≡ self.old.clause }
         ensures len { length self.new.bytes.now ≡ length self.old.bytes.now }
         ensures same { self.new.bytes.ghost_name ≡ self.old.bytes.ghost_name }
     {
-        self.mark_literals(clause.literals());
+        set(self.bytes, further);
     }
 
-    // Whether the negation of some literal of a clause, other than one, is marked.
-    pub fn clash(&self, clause: &Clause, except: Literal) -> bool
-        ensures { result ≡ marks_clash self.now.bytes.now except.value (lits_of clause.now) }
+    // Whether the resolvent of the marked clause with another holds an opposite pair: whether the negation of some literal of
+    // the other, but the pivot's, is marked.
+    pub fn clash(&self, other: &Clause, pivot: Literal) -> bool
+        ensures looked_up { result ≡ marks_clash self.now.bytes.now (neg_ℤ pivot.value) (lits_of other.now) }
+        ensures tells { Holds self.now.bytes.now self.now.clause.now → opposed (resolvent pivot.value (lits_of self.now.clause.now) (lits_of other.now)) ≡ result }
     {
-        self.clash_literals(clause.literals(), except)
+        let except = pivot.negated();
+        for l in other {
+            if l != except && self.has(l.negated()) {
+                return true;
+            }
+        }
+        false
     }
 
-    // Whether every literal of a clause is marked.
-    pub fn cover(&self, clause: &Clause) -> bool
-        ensures { result ≡ marks_cover self.now.bytes.now (lits_of clause.now) }
+    // Whether every literal of another clause is marked.
+    pub fn cover(&self, other: &Clause) -> bool
+        ensures looked_up { result ≡ marks_cover self.now.bytes.now (lits_of other.now) }
+        ensures tells { Holds self.now.bytes.now self.now.clause.now → result ≡ subset (lits_of other.now) (lits_of self.now.clause.now) }
     {
-        self.cover_literals(clause.literals())
+        for l in other {
+            if !self.has(l) {
+                return false;
+            }
+        }
+        true
     }
 
     // Whether a literal is marked; a place past the end is not.
     fn has(&self, l: Literal) -> bool
         ensures { result ≡ marked self.now.bytes.now l.value }
     {
-        let place = l.mark_place();
-        if place >= self.bytes.len() {
-            return false;
-        }
-        self.bytes[place] == 1
-    }
-
-    fn mark_literals(&mut self, all: &[i16])
-        requires { rising 512 0 all.now ≡ true }
-        ensures after { self.new.bytes.now ≡ with_marks self.old.bytes.now all.now }
-        ensures marked { self.old.bytes.now ≡ replicate 1024 0 → Marked 512 self.new.bytes.now all.now }
-        ensures len { length self.new.bytes.now ≡ length self.old.bytes.now }
-        ensures same { self.new.bytes.ghost_name ≡ self.old.bytes.ghost_name }
-    {
-        for x in all {
-            let l = Literal { value: *x };
-            let place = l.mark_place();
-            if place < self.bytes.len() {
-                self.bytes[place] = 1;
-            }
-        }
-    }
-
-    fn clash_literals(&self, all: &[i16], except: Literal) -> bool
-        requires { rising 512 0 all.now ≡ true }
-        ensures { result ≡ marks_clash self.now.bytes.now except.value all.now }
-    {
-        for x in all {
-            let l = Literal { value: *x };
-            if l.value != except.value {
-                if self.has(l.negated()) {
-                    return true;
-                }
-            }
-        }
-        false
-    }
-
-    fn cover_literals(&self, all: &[i16]) -> bool
-        requires { rising 512 0 all.now ≡ true }
-        ensures { result ≡ marks_cover self.now.bytes.now all.now }
-    {
-        for x in all {
-            let l = Literal { value: *x };
-            if !self.has(l) {
-                return false;
-            }
-        }
-        true
+        self.bytes
+            .get(l.mark_place())
+            .is_some_and(|mark| *mark == 1)
     }
 }

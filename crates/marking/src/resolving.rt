@@ -1,36 +1,20 @@
 ghost use Rattle.std.specs.Prelude.{◌≡◌};
 ghost use Rattle.std.specs.Option.{option_map};
 ghost use Rattle.words.specs.Meanings.{lits_of};
-ghost use Rattle.acceptance.proofs.Sets.{Plain};
-ghost use Rattle.marking.specs.Resolving.{added, AddsTo, AddsUnopposed, clause_resolvent};
+ghost use Rattle.marking.specs.Resolving.{added, Adds, clause_resolvent};
 
 use words::{Clause, Literal};
 
-// Puts the literals of a clause, but one, into another; tells whether all found room.
-fn add_all(to: &mut Clause, from: &Clause, except: Literal) -> bool
-    ensures unopposed { AddsUnopposed result (added except.value (lits_of to.old) (lits_of from.now)) (lits_of to.new) }
-    ensures plain { Plain (added except.value (lits_of to.old) (lits_of from.now)) → AddsTo result (added except.value (lits_of to.old) (lits_of from.now)) (lits_of to.new) }
+// A clause with the literals of another, but one, put in; none where they find no room. A loop: of a clause that a chain's closure
+// changes nothing would be known.
+fn with_all(before: Clause, from: &Clause, except: Literal) -> Option<Clause>
+    ensures { Adds result (added except.value (lits_of before) (lits_of from.now)) }
 {
-    let all = from.literals();
-    for x in all {
-        let l = Literal { value: *x };
-        if l.value != except.value && !to.insert(l) {
-            return false;
+    let mut clause = before;
+    for l in from {
+        if l != except && !clause.insert(l) {
+            return None;
         }
-    }
-    true
-}
-
-// Puts the two parents into an empty clause, each without its literal of the pivot's variable; none where that finds no room.
-fn joined(first: &Clause, second: &Clause, pivot: Literal) -> Option<Clause>
-    ensures { option_map lits_of result ≡ clause_resolvent pivot.value (lits_of first.now) (lits_of second.now) }
-{
-    let mut clause = Clause::empty();
-    if !add_all(&mut clause, first, pivot) {
-        return None;
-    }
-    if !add_all(&mut clause, second, pivot.negated()) {
-        return None;
     }
     Some(clause)
 }
@@ -39,5 +23,6 @@ fn joined(first: &Clause, second: &Clause, pivot: Literal) -> Option<Clause>
 pub fn resolvent(first: &Clause, second: &Clause, pivot: Literal) -> Option<Clause>
     ensures { option_map lits_of result ≡ clause_resolvent pivot.value (lits_of first.now) (lits_of second.now) }
 {
-    joined(first, second, pivot)
+    let without_pivot = with_all(Clause::empty(), first, pivot)?;
+    with_all(without_pivot, second, pivot.negated())
 }

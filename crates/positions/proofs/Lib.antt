@@ -1,3 +1,2 @@
-pub mod Stores
-pub mod Reading
-pub mod Writing
+mod Stores
+mod Writing

@@ -1,46 +1,29 @@
--- The text of a position, from a value on, and read back.
-use Rattle.std.proofs.Common.{◌≡◌, ℕ, zero, suc, ◌+◌, ◌-◌, ◌*◌, ◌<◌, ◌≤◌, true, List, [], ◌∷◌, length, get_or, take, drop, set, sym, refl, ap, ◌∙◌, arith}
-use lib.Seq.{sets}
-use Rattle.std.proofs.lemmas.List.{at_drop_more, at_drop_all, take_rest}
+-- How long the texts are, and a position read back from its text.
+use Rattle.std.proofs.Common.{◌≡◌, ℕ, zero, suc, ◌+◌, ◌*◌, ◌≤◌, true, false, List, [], ◌∷◌, length, refl, ap, ◌∙◌, ⊎_elim, arith}
+use Rattle.std.proofs.lemmas.Bool.{cases_Bool, cond-true, cond-false}
 use Rattle.std.proofs.lemmas.Bool.Decides.{nat_tests}
+use Rattle.textlines.specs.Lines.{blank}
 use Rattle.words.specs.Assignments.{all_bits}
-use Rattle.positions.specs.Values.{position_values, value_byte, text_behind, position_text, fronted, ReadBack}
-use Rattle.positions.proofs.Stores.{sets_fronted}
+use Rattle.positions.specs.Values.{value_of, position_values, value_byte, text_behind, position_text, ReadBack}
 
--- how long a text is
-pub length_behind : (vs : List ℕ) → length (text_behind vs) ≡ 2 * length vs + 1
+-- a text has no more values than bytes
+pub values_few : (bs : List ℕ) → length (position_values bs) ≤ length bs
+values_few [] = omega arith
+values_few (b ∷ bs) =
+    let ih = values_few bs in
+    ⊎_elim
+    (λ (t : blank b ≡ true). omega (arith, ap length (cond-true (blank b) (position_values bs) (value_of b ∷ position_values bs) t)))
+    (λ (t : blank b ≡ false). omega (arith, ap length (cond-false (blank b) (position_values bs) (value_of b ∷ position_values bs) t)))
+    (cases_Bool (blank b))
+
+-- a position's text has at most two bytes for each value and one more
+length_behind : (vs : List ℕ) → length (text_behind vs) ≡ 2 * length vs + 1
 length_behind [] = refl
 length_behind (v ∷ vs) = let ih = length_behind vs in omega arith
 
--- storing it: one value more, and the end
-pub put_more : (vs : List ℕ) (i : ℕ) → i < length vs → (s s1 s2 : List ℕ) (at p1 p2 v : ℕ) →
-    s1 ≡ set s at 32 → p1 ≡ at + 1 → v ≡ value_byte (get_or vs i 0) → s2 ≡ set s1 p1 v → p2 ≡ p1 + 1 →
-    sets s2 p2 (text_behind (drop (i + 1) vs)) ≡ sets s at (text_behind (drop i vs))
-put_more vs i h s s1 s2 at p1 p2 v e1 q1 w e2 q2 =
-    let a : sets s at (text_behind (drop i vs)) ≡ sets (set (set s at 32) (suc at) (value_byte (get_or vs i 0))) (suc (suc at)) (text_behind (drop (i + 1) vs)) =
-    ap (sets s at) (at_drop_more text_behind vs i 0 h) in
-    let b : suc at ≡ p1 = omega arith in
-    let d : suc (suc at) ≡ p2 = omega arith in
-    cc
-
-pub put_last : (vs : List ℕ) (i : ℕ) → length vs ≤ i → (s : List ℕ) (at : ℕ) → set s at 10 ≡ sets s at (text_behind (drop i vs))
-put_last vs i h s at = sym (ap (sets s at) (at_drop_all text_behind vs i h))
-
--- a text with a first value: its byte, and what stands behind it
-module _ (vs : List ℕ) (h : 0 < length vs) where
-  text_first : position_text vs ≡ value_byte (get_or vs 0 0) ∷ text_behind (drop 1 vs)
-  text_first = at_drop_more position_text vs 0 0 h
-
-  pub first_put : (s s1 s2 : List ℕ) (p v : ℕ) →
-      v ≡ value_byte (get_or vs 0 0) → s1 ≡ set s 0 v → p ≡ 1 → s2 ≡ sets s1 p (text_behind (take (length vs - 1) (drop 1 vs))) → s2 ≡ fronted (position_text vs) s
-  first_put s s1 s2 p v w e q f =
-      let a : sets s 0 (position_text vs) ≡ sets (set s 0 (value_byte (get_or vs 0 0))) 1 (text_behind (drop 1 vs)) = ap (sets s 0) text_first in
-      let b = sets_fronted (position_text vs) s in
-      let d = take_rest vs 1 in
-      cc
-
-  pub first_end : (p r : ℕ) → p ≡ 1 → r ≡ p + length (text_behind (take (length vs - 1) (drop 1 vs))) → r ≡ length (position_text vs)
-  first_end p r q f = let a = ap length text_first in let d = ap (λ t. length (text_behind t)) (take_rest vs 1) in omega arith
+pub text_short : (vs : List ℕ) → length (position_text vs) ≤ 2 * length vs + 1
+text_short [] = omega arith
+text_short (v ∷ vs) = omega (arith, length_behind vs)
 
 -- a value that a switch can have is read back from its byte
 bit_back : (v : ℕ) (bs : List ℕ) → v ≤ 1 → position_values (value_byte v ∷ bs) ≡ v ∷ position_values bs

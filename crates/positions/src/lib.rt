@@ -6,8 +6,11 @@
 ghost use Rattle.std.specs.Prelude.{◌≡◌, length};
 ghost use Rattle.positions.specs.Values.{position_values, position_text, fronted, ReadBack};
 
+use output::Output;
+use read::put_values;
+use write::put_position;
+
 mod read;
-mod store;
 #[cfg(test)]
 mod tests;
 mod write;
@@ -18,7 +21,9 @@ pub fn read_position(text: &[u8], values: &mut [u8]) -> usize
     ensures count { result ≡ length (position_values text.now) }
     ensures after { values.new ≡ fronted (position_values text.now) values.old }
 {
-    read::put_values(text, values)
+    let mut out = Output::over(values);
+    put_values(&mut out, text);
+    out.len()
 }
 
 // Writes a position as text to the front of the buffer, as far as it has room, and answers how long the text is. The bytes
@@ -28,5 +33,7 @@ pub fn write_position(values: &[u8], buffer: &mut [u8]) -> usize
     ensures after { buffer.new ≡ fronted (position_text values.now) buffer.old }
     ensures back { ReadBack values.now }
 {
-    write::put_text(values, buffer)
+    let mut out = Output::over(buffer);
+    put_position(&mut out, values);
+    out.len()
 }

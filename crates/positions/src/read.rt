@@ -1,11 +1,13 @@
 // Reading a position from a text.
-ghost use Rattle.std.specs.Prelude.{◌≡◌, length};
-ghost use Rattle.positions.specs.Values.{value_of, position_values, fronted};
+ghost use Rattle.std.specs.Prelude.{◌≡◌};
+ghost use Rattle.output.specs.Puts.{Puts};
+ghost use Rattle.positions.specs.Values.{value_of, position_values};
 
-use crate::store::put_byte;
+use output::Output;
 use textlines::is_blank;
 
-// The value that a byte stands for.
+// The value that a byte stands for. The values are bytes of a lent assignment, which restoring judges itself: an enum of
+// them would be taken apart again where it is made.
 fn value_of(byte: u8) -> u8
     ensures { result ≡ value_of byte }
 {
@@ -16,16 +18,13 @@ fn value_of(byte: u8) -> u8
     }
 }
 
-// Stores the values of a text from the memory's start on, and answers how many there are.
-pub(crate) fn put_values(text: &[u8], values: &mut [u8]) -> usize
-    ensures count { result ≡ length (position_values text.now) }
-    ensures after { values.new ≡ fronted (position_values text.now) values.old }
+// Puts the values of a text.
+pub(crate) fn put_values(out: &mut Output, text: &[u8])
+    ensures { Puts (position_values text.now) out.old out.new }
 {
-    let mut count = 0;
     for byte in text {
         if !is_blank(*byte) {
-            count = put_byte(values, count, value_of(*byte));
+            out.push(value_of(*byte));
         }
     }
-    count
 }

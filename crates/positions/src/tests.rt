@@ -35,8 +35,7 @@ const POSITIONS: [(&str, &str); 7] = [
 // A memory has these bytes at its front, as far as it has room, and behind them what was there.
 fn has_front(rt: &impl Abort, memory: &[u8], front: &[u8], filled: u8) {
     for (i, byte) in memory.iter().enumerate() {
-        let expected = if i < front.len() { front[i] } else { filled };
-        assert_eq!(rt; *byte, expected);
+        assert_eq!(rt; *byte, front.get(i).copied().unwrap_or(filled));
     }
 }
 

@@ -1,11 +1,11 @@
 // Writing a position as text.
-ghost use Rattle.std.specs.Prelude.{◌≡◌, ◌+◌, ◌*◌, ◌^◌, ◌<◌, length};
-ghost use Rattle.std.proofs.lemmas.List.Edits.{sets};
-ghost use Rattle.positions.specs.Values.{value_byte, text_behind, position_text, fronted, ReadBack};
+ghost use Rattle.std.specs.Prelude.{◌≡◌};
+ghost use Rattle.output.specs.Puts.{Puts};
+ghost use Rattle.positions.specs.Values.{value_byte, text_behind, position_text};
 
-use crate::store::put_byte;
+use output::Output;
 
-// The byte for a value.
+// The byte for a value. Every number can stand in a lent assignment, so an enum of the values would not be plainer.
 fn value_byte(value: u8) -> u8
     ensures { result ≡ value_byte value }
 {
@@ -16,29 +16,26 @@ fn value_byte(value: u8) -> u8
     }
 }
 
-// Stores the text behind the first value from a place on, and answers the place behind it.
-fn put_behind(values: &[u8], buffer: &mut [u8], at: usize) -> usize
-    requires { at + (2 * length values.now + 1) < 2 ^ 64 }
-    ensures bytes { buffer.new ≡ sets buffer.old at (text_behind values.now) }
-    ensures end { result ≡ at + length (text_behind values.now) }
+// Puts the text behind the first value.
+fn put_behind(out: &mut Output, values: &[u8])
+    ensures { Puts (text_behind values.now) out.old out.new }
 {
-    let mut end = at;
     for value in values {
-        end = put_byte(buffer, end, b' ');
-        end = put_byte(buffer, end, value_byte(*value));
+        out.push(b' ');
+        out.push(value_byte(*value));
     }
-    put_byte(buffer, end, b'\n')
+    out.push(b'\n');
 }
 
-// Stores the text of a position from the buffer's start on, and answers how long it is.
-pub(crate) fn put_text(values: &[u8], buffer: &mut [u8]) -> usize
-    ensures count { result ≡ length (position_text values.now) }
-    ensures after { buffer.new ≡ fronted (position_text values.now) buffer.old }
-    ensures back { ReadBack values.now }
+// Puts the text of a position.
+pub(crate) fn put_position(out: &mut Output, values: &[u8])
+    ensures { Puts (position_text values.now) out.old out.new }
 {
-    if values.is_empty() {
-        return put_behind(values, buffer, 0);
+    match values.split_first() {
+        Some((first, others)) => {
+            out.push(value_byte(*first));
+            put_behind(out, others);
+        }
+        None => out.push(b'\n'),
     }
-    let end = put_byte(buffer, 0, value_byte(values[0]));
-    put_behind(&values[1..], buffer, end)
 }

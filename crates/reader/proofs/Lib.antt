@@ -2,7 +2,6 @@ pub mod Digits
 pub mod Lines
 pub mod Runs
 pub mod Heads
-pub mod Pushes
 pub mod Endings
 pub mod Written
 mod Examples

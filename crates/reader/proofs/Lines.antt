@@ -1,51 +1,60 @@
 -- Counting lines.
-use Rattle.std.proofs.Common.{◌≡◌, ℕ, ◌+◌, ◌-◌, ◌<◌, ◌≤◌, List, [], ◌∷◌, ◌++◌, length, get_or, take, drop, sym, refl, ap, ◌∙◌, arith}
-use Rattle.std.proofs.lemmas.List.{take_more, length-take, length-drop}
-use Rattle.std.proofs.lemmas.Bool.Decides.{nat_tests}
-use Rattle.reader.specs.Tokens.{line_behind, line_past, last_line, line_before}
+use Rattle.std.proofs.Common.{◌≡◌, ℕ, suc, ◌+◌, ◌-◌, ◌≤◌, max, true, false, cond, eqb, List, [], ◌∷◌, ◌++◌, length, take, count_by, refl, ap, ⊎_elim, arith}
+use Rattle.std.proofs.lemmas.List.Sums.{sum_by-cons}
+use Rattle.std.proofs.lemmas.Bool.{cases_Bool, cond-true, cond-false}
+use Rattle.textlines.specs.Lines.{last_of, lines_on, text_lines}
+use Rattle.reader.specs.Tokens.{line_behind, line_past, last_line}
 
--- the line behind two runs of bytes
-pub past_append : (xs bs : List ℕ) (l : ℕ) → line_past (xs ++ bs) l ≡ line_past bs (line_past xs l)
-past_append [] bs l = refl
-past_append (x ∷ xs) bs l = past_append xs bs (line_behind x l)
+-- each line feed adds a line
+pub past_feeds : (bs : List ℕ) (l : ℕ) → line_past bs l ≡ l + count_by (λ b. eqb b 10) bs
+past_feeds [] l = omega arith
+past_feeds (b ∷ bs) l =
+    let ih : line_past (b ∷ bs) l ≡ line_behind b l + count_by (λ b. eqb b 10) bs = past_feeds bs (line_behind b l) in
+    let s : count_by (λ b. eqb b 10) (b ∷ bs) ≡ cond (eqb b 10) 1 0 + count_by (λ b. eqb b 10) bs = sum_by-cons (λ b. cond (eqb b 10) 1 0) b bs in
+    ⊎_elim
+    (λ (t : eqb b 10 ≡ true).
+    let k : line_behind b l ≡ l + 1 = cond-true (eqb b 10) _ _ t in
+    let n : ◌≡◌ {A = ℕ} (cond (eqb b 10) 1 0) 1 = cond-true (eqb b 10) _ _ t in
+    omega arith)
+    (λ (t : eqb b 10 ≡ false).
+    let k : line_behind b l ≡ l = cond-false (eqb b 10) _ _ t in
+    let n : ◌≡◌ {A = ℕ} (cond (eqb b 10) 1 0) 0 = cond-false (eqb b 10) _ _ t in
+    omega arith)
+    (cases_Bool (eqb b 10))
 
--- each byte adds a line at most
-pub past_low : (bs : List ℕ) (l : ℕ) → l ≤ line_past bs l
-past_low [] l = omega arith
-past_low (b ∷ bs) l = let ih = past_low bs (line_behind b l) in grind (arith, nat_tests)
+-- and never takes one away
+past_low : (bs : List ℕ) (l : ℕ) → l ≤ line_past bs l
+past_low bs l = omega (arith, past_feeds bs l)
 
-pub past_high : (bs : List ℕ) (l : ℕ) → line_past bs l ≤ l + length bs
-past_high [] l = omega arith
-past_high (b ∷ bs) l = let ih = past_high bs (line_behind b l) in grind (arith, nat_tests)
+last_pushed : (w : List ℕ) (b : ℕ) → length (last_of (w ++ b ∷ [])) ≡ 1
+last_pushed [] b = refl
+last_pushed (x ∷ w) b = refl
 
--- the line behind one byte more
-pub past_more : (bs : List ℕ) (i l : ℕ) → i < length bs → line_past (take (i + 1) bs) l ≡ line_behind (get_or bs i 0) (line_past (take i bs) l)
-past_more bs i l h = ap (λ t. line_past t l) (take_more bs i 0 h) ∙ past_append (take i bs) (get_or bs i 0 ∷ []) l
+-- the lines of a text that has a byte, with w read before of the first, end with that of the last byte
+last_past : (w : List ℕ) (b : ℕ) (bs : List ℕ) (l : ℕ) → line_past (take (length (b ∷ bs) - 1) (b ∷ bs)) l + 1 ≡ l + length (lines_on w (b ∷ bs))
+last_past w b [] l =
+    ⊎_elim
+    (λ (t : eqb b 10 ≡ true). let n : length (lines_on w (b ∷ [])) ≡ 1 = ap length (cond-true (eqb b 10) _ _ t) in omega arith)
+    (λ (t : eqb b 10 ≡ false). let n : length (lines_on w (b ∷ [])) ≡ length (last_of (w ++ b ∷ [])) = ap length (cond-false (eqb b 10) _ _ t) in omega (arith, last_pushed w b))
+    (cases_Bool (eqb b 10))
+last_past w b (c ∷ bs) l =
+    let e : length (b ∷ c ∷ bs) - 1 ≡ suc (length (c ∷ bs) - 1) = omega arith in
+    let s : line_past (take (length (b ∷ c ∷ bs) - 1) (b ∷ c ∷ bs)) l ≡ line_past (take (length (c ∷ bs) - 1) (c ∷ bs)) (line_behind b l) =
+    ap (λ n. line_past (take n (b ∷ c ∷ bs)) l) e in
+    ⊎_elim
+    (λ (t : eqb b 10 ≡ true).
+    let n : length (lines_on w (b ∷ c ∷ bs)) ≡ suc (length (lines_on [] (c ∷ bs))) = ap length (cond-true (eqb b 10) _ _ t) in
+    let k : line_behind b l ≡ l + 1 = cond-true (eqb b 10) _ _ t in
+    omega (arith, last_past [] c bs (line_behind b l)))
+    (λ (t : eqb b 10 ≡ false).
+    let n : length (lines_on w (b ∷ c ∷ bs)) ≡ length (lines_on (w ++ b ∷ []) (c ∷ bs)) = ap length (cond-false (eqb b 10) _ _ t) in
+    let k : line_behind b l ≡ l = cond-false (eqb b 10) _ _ t in
+    omega (arith, last_past (w ++ b ∷ []) c bs (line_behind b l)))
+    (cases_Bool (eqb b 10))
 
--- the number of a line within a text is small
-pub past_small : (bs : List ℕ) (i n : ℕ) → n ≡ line_past (take i bs) 1 → i ≤ length bs → n ≤ i + 1
-past_small bs i n e h = let p = past_high (take i bs) 1 in let q = length-take i bs in omega arith
-
--- before the end a place has the line of its byte
-pub at_byte : (bs : List ℕ) (i n : ℕ) → i < length bs → n ≡ line_before bs (record { line = n; bytes = drop i bs })
-at_byte bs i n h = let k = length-drop i bs in grind (arith, nat_tests)
-
--- at the end it has the last line, which is that of the last byte
-pub at_end : (bs : List ℕ) (i n : ℕ) → i ≡ length bs → line_before bs (record { line = n; bytes = drop i bs }) ≡ last_line bs
-at_end bs i n h = let k = length-drop i bs in grind (arith, nat_tests)
-
-module _ (bs : List ℕ) (i n : ℕ) (e : n ≡ line_past (take i bs) 1) (h : i ≡ length bs) where
-  pub at_empty : i ≡ 0 → n ≡ line_before bs (record { line = n; bytes = drop i bs })
-  at_empty z = let w = at_end bs i n h in let k : length bs - 1 ≡ i = omega arith in e ∙ sym (w ∙ ap (λ m. line_past (take m bs) 1) k)
-
-  last : 0 < i → n ≡ line_behind (get_or bs (i - 1) 0) (last_line bs)
-  last p =
-      let k : i - 1 + 1 ≡ i = omega arith in
-      let m : i - 1 ≡ length bs - 1 = omega arith in
-      e ∙ sym (ap (λ j. line_past (take j bs) 1) k) ∙ past_more bs (i - 1) 1 (omega arith) ∙ ap (λ j. line_behind (get_or bs (i - 1) 0) (line_past (take j bs) 1)) m
-
-  pub at_feed : 0 < i → get_or bs (i - 1) 0 ≡ 10 → n - 1 ≡ line_before bs (record { line = n; bytes = drop i bs })
-  at_feed p f = let w = at_end bs i n h in let g = last p in grind (arith, nat_tests)
-
-  pub at_other : 0 < i → (get_or bs (i - 1) 0 ≡ 10 → ⊥) → n ≡ line_before bs (record { line = n; bytes = drop i bs })
-  at_other p f = let w = at_end bs i n h in let g = last p in grind (arith, nat_tests)
+pub last_counted : (bs : List ℕ) (n : ℕ) → n ≡ max (length (text_lines bs)) 1 → n ≡ last_line bs
+last_counted [] n e = e
+last_counted (b ∷ bs) n e =
+    let s : last_line (b ∷ bs) + 1 ≡ 1 + length (text_lines (b ∷ bs)) = last_past [] b bs 1 in
+    let h : 1 ≤ last_line (b ∷ bs) = past_low (take (length (b ∷ bs) - 1) (b ∷ bs)) 1 in
+    omega arith

@@ -1,49 +1,21 @@
 -- Words as runs of bytes.
-use Rattle.std.proofs.Common.{◌≡◌, ℕ, zero, suc, ◌+◌, ◌-◌, ◌<◌, ◌≤◌, true, false, List, [], ◌∷◌, ◌++◌, length, get_or, take, drop, sym, refl, ap, ◌∙◌, ⊎_elim, arith}
-use Rattle.std.proofs.lemmas.List.{at_drop_more, at_drop_all, append_assoc, append-nil, get_or-drop, length-drop, length-take, take-append-drop, take-take, drop-take, drop-drop}
-use Rattle.std.proofs.lemmas.Bool.{cases_Bool, cases_lt, cond-true, cond-false}
+use Rattle.std.proofs.Common.{◌≡◌, ℕ, suc, ◌<◌, ◌≤◌, true, false, cond, not, List, [], ◌∷◌, ◌++◌, length, take, drop, sym, refl, ap, ◌∙◌, ⊎_elim, arith}
+use Rattle.std.specs.List.{prefix_len}
+use Rattle.std.proofs.lemmas.List.{append_assoc, append-nil, length-take}
+use Rattle.std.proofs.lemmas.Bool.{cases_Bool, cond-true, cond-false}
 use Rattle.std.proofs.lemmas.Bool.Decides.{nat_tests}
 use Rattle.textlines.specs.Lines.{blank}
-use Rattle.reader.specs.Tokens.{line_behind, line_past, line_before, Part, word_before, words_on, run}
-use Rattle.reader.proofs.Lines.{past_append, at_byte, at_other}
+use Rattle.reader.specs.Tokens.{line_behind, line_past, Part, word_before, words_on}
 
--- a blank before the words is passed over
-pub blank_passed : (bs : List ℕ) (i l : ℕ) → i < length bs → blank (get_or bs i 0) ≡ true →
-    words_on l [] (drop i bs) ≡ words_on (line_behind (get_or bs i 0) l) [] (drop (i + 1) bs)
-blank_passed bs i l h b = at_drop_more (words_on l []) bs i 0 h ∙ cond-true (blank (get_or bs i 0)) _ _ b
+-- the length of the run of bytes with which a text begins that are not blank
+abbrev pub run : List ℕ → ℕ
+run [] = 0
+run (b ∷ bs) = cond (blank b) 0 (suc (run bs))
 
--- a run, one byte more and its end
-pub run_more : (bs : List ℕ) (i : ℕ) → i < length bs → blank (get_or bs i 0) ≡ false → run (drop i bs) ≡ run (drop (i + 1) bs) + 1
-run_more bs i h b = let e = at_drop_more run bs i 0 h ∙ cond-false (blank (get_or bs i 0)) _ _ b in omega arith
-
-pub run_stopped : (bs : List ℕ) (i : ℕ) → i < length bs → blank (get_or bs i 0) ≡ true → run (drop i bs) ≡ 0
-run_stopped bs i h b = at_drop_more run bs i 0 h ∙ cond-true (blank (get_or bs i 0)) _ _ b
-
-pub run_ended : (bs : List ℕ) (i : ℕ) → length bs ≤ i → run (drop i bs) ≡ 0
-run_ended bs i h = at_drop_all run bs i h
-
--- a run lies in the text, and none of its bytes is blank
-pub run_fits : (bs : List ℕ) → run bs ≤ length bs
-run_fits [] = omega arith
-run_fits (b ∷ bs) =
-    let ih = run_fits bs in
-    ⊎_elim
-    (λ (t : blank b ≡ true). let e : run (b ∷ bs) ≡ 0 = cond-true (blank b) _ _ t in omega arith)
-    (λ (t : blank b ≡ false). let e : run (b ∷ bs) ≡ suc (run bs) = cond-false (blank b) _ _ t in omega arith)
-    (cases_Bool (blank b))
-
-pub run_byte : (bs : List ℕ) (i : ℕ) → i < run bs → blank (get_or bs i 0) ≡ false
-run_byte [] i h = absurd (omega arith)
-run_byte (b ∷ bs) zero h =
-    ⊎_elim
-    (λ (t : blank b ≡ true). let e : run (b ∷ bs) ≡ 0 = cond-true (blank b) _ _ t in absurd (omega arith))
-    (λ (t : blank b ≡ false). t)
-    (cases_Bool (blank b))
-run_byte (b ∷ bs) (suc i) h =
-    ⊎_elim
-    (λ (t : blank b ≡ true). let e : run (b ∷ bs) ≡ 0 = cond-true (blank b) _ _ t in absurd (omega arith))
-    (λ (t : blank b ≡ false). let e : run (b ∷ bs) ≡ suc (run bs) = cond-false (blank b) _ _ t in run_byte bs i (omega arith))
-    (cases_Bool (blank b))
+-- as the code counts it
+pub run_counted : (bs : List ℕ) → prefix_len (λ b. not (blank b)) bs ≡ run bs
+run_counted [] = refl
+run_counted (b ∷ bs) = let ih = run_counted bs in grind arith
 
 -- the words of a text are its run, and the words behind it
 pub words_run : (l : ℕ) (w bs : List ℕ) → words_on l w bs ≡ word_before l (w ++ take (run bs) bs) (words_on l [] (drop (run bs) bs))
@@ -83,51 +55,66 @@ run_line (b ∷ bs) l =
     ap (λ n. line_past (take n (b ∷ bs)) l) e ∙ ap (λ m. line_past (take (run bs) bs) m) k ∙ run_line bs l)
     (cases_Bool (blank b))
 
--- the front of a list in two parts
-take_add : (a n : ℕ) (xs : List ℕ) → take (a + n) xs ≡ take a xs ++ take n (drop a xs)
-take_add a n xs =
-    let l = take-append-drop a (take (a + n) xs) in
-    let t = take-take a (a + n) xs (omega arith) in
-    let d = drop-take a n xs in
-    cc
-
 pub some_word : (l : ℕ) (w : List ℕ) (ws : List Part) → 0 < length w → word_before l w ws ≡ record { line = l; bytes = w } ∷ ws
 some_word l [] ws h = absurd (omega arith)
 some_word l (b ∷ bs) ws h = refl
 
--- a word: the run from a place to its end
-module _ (bs : List ℕ) (a e l : ℕ) (n : e ≡ a + run (drop a bs)) (h : a ≤ length bs) (k : l ≡ line_past (take a bs) 1) where
-  pub word_within : e ≤ length bs
-  word_within = let f = run_fits (drop a bs) in let g = length-drop a bs in omega arith
+-- blanks before the words are passed over, and none stands behind them
+module _ (b : ℕ) (bs : List ℕ) where
+  more_blanks : blank b ≡ true → prefix_len (λ b. blank b) (b ∷ bs) ≡ suc (prefix_len (λ b. blank b) bs)
+  more_blanks t = cond-true (blank b) _ _ t ∙ omega arith
 
-  pub word_counted : l ≡ line_past (take e bs) 1
-  word_counted =
-      let t : take e bs ≡ take a bs ++ take (run (drop a bs)) (drop a bs) = ap (λ m. take m bs) n ∙ take_add a (run (drop a bs)) bs in
-      sym (ap (λ t. line_past t 1) t ∙ past_append (take a bs) _ 1 ∙ run_line (drop a bs) _ ∙ sym k)
+  no_blanks : blank b ≡ false → prefix_len (λ b. blank b) (b ∷ bs) ≡ 0
+  no_blanks t = cond-false (blank b) _ _ t
 
-  pub word_line : (a ≡ e → ⊥) → l ≡ line_before bs (record { line = l; bytes = drop e bs })
-  word_line d =
-      ⊎_elim
-      (λ (q : e < length bs). at_byte bs e l q)
-      (λ (q : length bs ≤ e).
-      let w = word_within in
-      let i : a + (e - 1 - a) ≡ e - 1 = omega arith in
-      let b = run_byte (drop a bs) (e - 1 - a) (omega arith) in
-      let g : get_or (drop a bs) (e - 1 - a) 0 ≡ get_or bs (e - 1) 0 = get_or-drop a bs (e - 1 - a) 0 ∙ ap (λ j. get_or bs j 0) i in
-      at_other bs e l word_counted (omega arith) (omega arith) (not_feed _ (sym (ap blank g) ∙ b)))
-      (cases_lt e (length bs))
+pub blanks_passed : (bs : List ℕ) (l : ℕ) →
+    words_on l [] bs ≡ words_on (line_past (take (prefix_len (λ b. blank b) bs) bs) l) [] (drop (prefix_len (λ b. blank b) bs) bs)
+blanks_passed [] l = refl
+blanks_passed (b ∷ bs) l =
+    let behind : ℕ → List Part = λ n. words_on (line_past (take n (b ∷ bs)) l) [] (drop n (b ∷ bs)) in
+    ⊎_elim
+    (λ (t : blank b ≡ true).
+    let q : words_on l [] (b ∷ bs) ≡ words_on (line_behind b l) [] bs = cond-true (blank b) _ _ t in
+    q ∙ blanks_passed bs (line_behind b l) ∙ sym (ap behind (more_blanks b bs t)))
+    (λ (t : blank b ≡ false). sym (ap behind (no_blanks b bs t)))
+    (cases_Bool (blank b))
 
-  pub word_found : (a ≡ e → ⊥) → words_on l [] (drop a bs) ≡ record { line = line_before bs (record { line = l; bytes = drop e bs }); bytes = take (e - a) (drop a bs) } ∷ words_on l [] (drop e bs)
-  word_found d =
-      let m : e - a ≡ run (drop a bs) = omega arith in
-      let r : words_on l [] (drop a bs) ≡ word_before l (take (e - a) (drop a bs)) (words_on l [] (drop e bs)) =
-      words_run l [] (drop a bs) ∙ ap (λ j. word_before l (take j (drop a bs)) (words_on l [] (drop j (drop a bs)))) (sym m) ∙ ap (λ t. word_before l (take (e - a) (drop a bs)) (words_on l [] t)) (drop-drop (e - a) a bs ∙ ap (λ j. drop j bs) (omega arith)) in
-      let q = word_line d in
-      r ∙ some_word _ _ _ (omega (arith, length-take (e - a) (drop a bs), run_fits (drop a bs))) ∙ ap (λ j. record { line = j; bytes = take (e - a) (drop a bs) } ∷ words_on l [] (drop e bs)) q
+pub nothing_behind : (bs : List ℕ) → run (drop (prefix_len (λ b. blank b) bs) bs) ≡ 0 → drop (prefix_len (λ b. blank b) bs) bs ≡ []
+nothing_behind [] h = refl
+nothing_behind (b ∷ bs) h =
+    ⊎_elim
+    (λ (t : blank b ≡ true).
+    let d : drop (prefix_len (λ b. blank b) (b ∷ bs)) (b ∷ bs) ≡ drop (prefix_len (λ b. blank b) bs) bs = ap (λ n. drop n (b ∷ bs)) (more_blanks b bs t) in
+    d ∙ nothing_behind bs (sym (ap run d) ∙ h))
+    (λ (t : blank b ≡ false).
+    let d : drop (prefix_len (λ b. blank b) (b ∷ bs)) (b ∷ bs) ≡ b ∷ bs = ap (λ n. drop n (b ∷ bs)) (no_blanks b bs t) in
+    let e : run (b ∷ bs) ≡ suc (run bs) = cond-false (blank b) _ _ t in
+    let z : run (b ∷ bs) ≡ 0 = sym (ap run d) ∙ h in
+    absurd (omega arith))
+    (cases_Bool (blank b))
 
-  pub no_word : a ≡ e → (a < length bs → blank (get_or bs a 0) ≡ false) → (words_on l [] (drop a bs) ≡ []) × (a ≡ length bs)
-  no_word d f =
-      ⊎_elim
-      (λ (q : a < length bs). let z = run_more bs a q (f q) in absurd (omega arith))
-      (λ (q : length bs ≤ a). (at_drop_all (words_on l []) bs a q, omega arith))
-      (cases_lt a (length bs))
+-- a text, what is left of it behind its blanks, and what is left of that behind a word w, as the code comes to them
+module _ (l l1 l2 m n : ℕ) (bs cs ds w : List ℕ) (e : m ≡ prefix_len (λ b. blank b) bs) (k : l1 ≡ line_past (take m bs) l) (d : cs ≡ drop m bs)
+    (f : n ≡ prefix_len (λ b. not (blank b)) cs) (q : l2 ≡ line_past (take n cs) l1) (r : ds ≡ drop n cs) (p : w ≡ take n cs) where
+  passed : words_on l [] bs ≡ words_on l1 [] cs
+  passed =
+      blanks_passed bs l ∙ ap (λ j. words_on (line_past (take j bs) l) [] (drop j bs)) (sym e) ∙ ap (λ j. words_on j [] (drop m bs)) (sym k) ∙
+      ap (words_on l1 []) (sym d)
+
+  as_run : n ≡ run cs
+  as_run = f ∙ run_counted cs
+
+  pub word_found : 0 < length w → words_on l [] bs ≡ record { line = l1; bytes = w } ∷ words_on l2 [] ds
+  word_found h =
+      let same_line : l2 ≡ l1 = q ∙ ap (λ j. line_past (take j cs) l1) as_run ∙ run_line cs l1 in
+      let found : words_on l1 [] cs ≡ word_before l1 (take n cs) (words_on l1 [] (drop n cs)) =
+      words_run l1 [] cs ∙ ap (λ j. word_before l1 (take j cs) (words_on l1 [] (drop j cs))) (sym as_run) in
+      passed ∙ found ∙ ap (λ v. word_before l1 v (words_on l1 [] (drop n cs))) (sym p) ∙ some_word l1 w _ h ∙
+      ap (λ j. record { line = l1; bytes = w } ∷ words_on j [] (drop n cs)) (sym same_line) ∙ ap (λ v. record { line = l1; bytes = w } ∷ words_on l2 [] v) (sym r)
+
+  pub no_word : n ≤ length cs → length w ≡ 0 → (words_on l [] bs ≡ []) × (words_on l2 [] ds ≡ [])
+  no_word g h =
+      let none : n ≡ 0 = let t = ap length p in omega (arith, length-take n cs) in
+      let behind : cs ≡ drop (prefix_len (λ b. blank b) bs) bs = d ∙ ap (λ j. drop j bs) e in
+      let nil : cs ≡ [] = behind ∙ nothing_behind bs (sym (ap run behind) ∙ sym as_run ∙ none) in
+      (passed ∙ ap (words_on l1 []) nil, ap (words_on l2 []) (r ∙ ap (λ j. drop j cs) none ∙ nil))

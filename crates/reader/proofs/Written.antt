@@ -8,11 +8,11 @@ use Rattle.std.proofs.lemmas.Str.Parse.{IsNumeralModel, numerals_by_fold}
 use Rattle.std.proofs.lemmas.Bool.{and_from, and_right, cases_Bool, cases_eq, cond-false, cond-true, eq-eqb, le-leb, lt-ltb, ne_eqb}
 use Rattle.std.proofs.lemmas.Bool.Decides.{nat_tests}
 use Rattle.reader.specs.Numerals.{digit, all_digits, value_on, padded, unsigned_numeral, negative, numeral}
-use Rattle.reader.specs.Tokens.{line_behind, word_before, words_on, run}
+use Rattle.reader.specs.Tokens.{line_behind, word_before, words_on}
 use Rattle.textlines.specs.Lines.{blank, length_to}
 use Rattle.reader.specs.Headers.{past_line, two_counts, header_counts, first_counts}
 use Rattle.reader.proofs.Heads.{two_there}
-use Rattle.reader.proofs.Runs.{some_word, words_run}
+use Rattle.reader.proofs.Runs.{run, some_word, words_run}
 
 own : IsNumeralModel (λ ds. all_digits ds ≡ true) (value_on 0)
 own = numerals_by_fold _ (search rules) value_on (search rules)

@@ -3,7 +3,7 @@ use Rattle.std.specs.Prelude.{ℕ, ◌+◌, Bool, true, false, cond, not, ◌&&�
 use Rattle.std.specs.Option.{option_map}
 use Rattle.words.specs.declared.fault.FileFault.{FileFault}
 use Rattle.words.specs.declared.fault.FileFault.TheVariants.{HeaderMalformed, HeaderBeyond}
-use Rattle.words.specs.Checks.{check, unless}
+use Rattle.words.specs.Checks.{check}
 use Rattle.textlines.specs.Lines.{length_to}
 use Rattle.reader.specs.declared.counts.Counts.{Counts}
 use Rattle.reader.specs.Numerals.{unsigned_numeral}
@@ -54,7 +54,3 @@ announced_clauses text = cond (nat_le (length text) 65536) (option_map (λ c. c.
 abbrev pub header_fault : Option Counts → Option FileFault
 header_fault None = Some HeaderMalformed
 header_fault (Some c) = check (nat_le c.variables 512 && nat_le c.clauses 1024) HeaderBeyond
-
--- what is left of a text that begins with a header: one that is refused is not passed
-abbrev pub header_leaves : Option FileFault → Part → Part
-header_leaves f p = unless f (past_line p.line p.bytes) p

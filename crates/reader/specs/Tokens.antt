@@ -1,5 +1,5 @@
 -- Lines and words of a text, as bytes.
-use Rattle.std.specs.Prelude.{ℕ, suc, ◌+◌, ◌-◌, cond, List, [], ◌∷◌, ◌++◌, length, take, Some, None, Option, ◌==◌, nat_lt}
+use Rattle.std.specs.Prelude.{ℕ, ◌+◌, ◌-◌, cond, List, [], ◌∷◌, ◌++◌, length, take, ◌==◌, nat_lt}
 use Rattle.textlines.specs.Lines.{blank}
 
 -- the line of the byte behind b, where b is in line l: a line feed is a byte of the line that it ends
@@ -33,13 +33,3 @@ word_before l (b ∷ bs) ws = record { line = l; bytes = b ∷ bs } ∷ ws
 abbrev pub words_on : ℕ → List ℕ → List ℕ → List Part
 words_on l w [] = word_before l w []
 words_on l w (b ∷ bs) = cond (blank b) (word_before l w (words_on (line_behind b l) [] bs)) (words_on l (w ++ b ∷ []) bs)
-
--- the length of the run of bytes with which a text begins that are not blank
-abbrev pub run : List ℕ → ℕ
-run [] = 0
-run (b ∷ bs) = cond (blank b) 0 (suc (run bs))
-
--- the words where one or none was found before the others
-abbrev pub listed : ℕ → Option (List ℕ) → List Part → List Part
-listed l None ws = []
-listed l (Some w) ws = record { line = l; bytes = w } ∷ ws

@@ -1,100 +1,95 @@
 // Reading the header of a formula.
-ghost use Rattle.std.specs.Prelude.{◌≡◌, ◌<◌, false, length, None};
-ghost use Rattle.std.specs.Result.{result_ok};
-ghost use Rattle.words.specs.Checks.{fault_of, unless};
-ghost use Rattle.reader.specs.Headers.{uncommented, two_counts, header_counts, first_counts, announced_clauses, header_fault, header_leaves, past_line};
+ghost use Rattle.std.specs.Prelude.{◌≡◌, ◌<◌, false, length, IfOk, OnOk, Some};
+ghost use Rattle.words.specs.Checks.{fault_of, inside};
+ghost use Rattle.reader.specs.Headers.{uncommented, first_counts, header_counts, two_counts, announced_clauses, header_fault, past_line};
+ghost use Rattle.reader.specs.Tokens.{line_before};
 ghost use Rattle.reader.specs.Scanning.{rest_of};
+ghost use Rattle.reader.specs.Formulas.{located};
 
-use crate::counts::Counts;
+use crate::counts::{Counts, Header};
 use crate::numeral::unsigned_number;
+use crate::parts::split_once;
 use crate::scanner::Scanner;
-use textlines::length_to;
-use words::FileFault;
+use words::{File, FileFault, LocatedFault};
 
 // Two numbers with a space between them.
 fn read_counts(bytes: &[u8]) -> Option<Counts>
     ensures { result ≡ two_counts bytes.now }
 {
-    let space = length_to(b' ', bytes);
-    if space == bytes.len() {
-        return None;
-    }
-    let variables = unsigned_number(&bytes[..space])?;
-    let clauses = unsigned_number(&bytes[space + 1..])?;
-    Some(Counts { variables, clauses })
+    let (variables, clauses) = split_once(b' ', bytes)?;
+    Some(Counts {
+        variables: unsigned_number(variables)?,
+        clauses: unsigned_number(clauses)?,
+    })
 }
 
 // The counts of a line without its line feed, if it is a header.
 fn read_line(line: &[u8]) -> Option<Counts>
     ensures { result ≡ header_counts line.now }
 {
-    if !line.starts_with(b"p cnf ") {
-        return None;
-    }
-    read_counts(&line[6..])
+    read_counts(line.strip_prefix(b"p cnf ")?)
 }
 
 // The counts of the header with which a text begins, if it does.
 fn first_counts(text: &[u8]) -> Option<Counts>
     ensures { result ≡ first_counts text.now }
 {
-    let end = length_to(b'\n', text);
-    if end == text.len() {
-        return None;
+    let (line, _) = split_once(b'\n', text)?;
+    read_line(line)
+}
+
+impl TryFrom<Counts> for Header {
+    type Error = FileFault;
+
+    ghost try_from_gives = { λ counts r. (fault_of r ≡ header_fault (Some counts)) × IfOk r (λ header. header.counts ≡ counts) };
+
+    fn try_from(counts: Counts) -> Result<Header, FileFault> {
+        if counts.variables > 512 || counts.clauses > 1024 {
+            return Err(FileFault::HeaderBeyond);
+        }
+        Ok(Header { counts })
     }
-    read_line(&text[..end])
 }
 
 impl Scanner<'_> {
     // Goes behind the line feed of this line, or to the end of the text.
     fn skip_line(&mut self)
-        ensures text { self.new.text ≡ self.old.text }
-        ensures rest { rest_of self.new ≡ past_line self.old.line (rest_of self.old).bytes }
-        ensures onward { self.old.at < length self.old.text.now → self.old.at < self.new.at }
+        ensures rest { rest_of self.new ≡ past_line self.old.line self.old.rest.now }
+        ensures onward { 0 < length self.old.rest.now → length self.new.rest.now < length self.old.rest.now }
     {
-        while self.at < self.text.len() {
-            let byte = self.text[self.at];
-            self.step();
-            if byte == b'\n' {
-                return;
+        match split_once(b'\n', self.rest) {
+            Some((_, rest)) => {
+                self.line += 1;
+                self.rest = rest;
             }
+            None => self.rest = &[],
         }
     }
 
     // Goes behind the comments that stand here.
     fn skip_comments(&mut self)
-        ensures text { self.new.text ≡ self.old.text }
-        ensures rest { rest_of self.new ≡ uncommented false self.old.line (rest_of self.old).bytes }
+        ensures { rest_of self.new ≡ uncommented false self.old.line self.old.rest.now }
     {
-        while self.at < self.text.len() && self.text[self.at] == b'c' {
+        // A `while`: where the next comment begins is known only behind this one.
+        while self.rest.starts_with(b"c") {
             self.skip_line();
         }
     }
 
-    // The rest of the text.
-    fn rest(&self) -> &[u8]
-        ensures { result.now ≡ (rest_of self.now).bytes }
-    {
-        let text = self.text;
-        &text[self.at..]
-    }
-
-    // Goes behind the comments and the header, and gives its counts; stops before a header that it refuses.
-    pub(crate) fn header(&mut self) -> Result<Counts, FileFault>
-        ensures text { self.new.text ≡ self.old.text }
-        ensures fault { fault_of result ≡ header_fault (first_counts (uncommented false self.old.line (rest_of self.old).bytes).bytes) }
-        ensures counts { result_ok result ≡ unless (fault_of result) (first_counts (uncommented false self.old.line (rest_of self.old).bytes).bytes) None }
-        ensures rest { rest_of self.new ≡ header_leaves (fault_of result) (uncommented false self.old.line (rest_of self.old).bytes) }
+    // Goes behind the comments and the header of this text, and gives it. The text stays beside the scanner, for the line of its end.
+    pub(crate) fn header(&mut self, text: &[u8]) -> Result<Header, LocatedFault>
+        ensures fault { fault_of result ≡ inside (located (line_before text.now (uncommented false self.old.line self.old.rest.now))) (header_fault (first_counts (uncommented false self.old.line self.old.rest.now).bytes)) }
+        ensures counts { IfOk result (λ header. first_counts (uncommented false self.old.line self.old.rest.now).bytes ≡ Some header.counts) }
+        ensures rest { OnOk result (rest_of self.new ≡ past_line (uncommented false self.old.line self.old.rest.now).line (uncommented false self.old.line self.old.rest.now).bytes) }
     {
         self.skip_comments();
-        let Some(counts) = first_counts(self.rest()) else {
-            return Err(FileFault::HeaderMalformed);
-        };
-        if counts.variables > 512 || counts.clauses > 1024 {
-            return Err(FileFault::HeaderBeyond);
-        }
+        let line = self.here(text);
+        let header = first_counts(self.rest)
+            .ok_or(FileFault::HeaderMalformed)
+            .and_then(Header::try_from)
+            .map_err(|fault| fault.at(File::Formula, line))?;
         self.skip_line();
-        Ok(counts)
+        Ok(header)
     }
 }
 
@@ -107,6 +102,6 @@ pub fn announced(text: &[u8]) -> Option<u32>
     }
     let mut scanner = Scanner::over(text);
     scanner.skip_comments();
-    let counts = first_counts(scanner.rest())?;
+    let counts = first_counts(scanner.rest)?;
     Some(counts.clauses)
 }

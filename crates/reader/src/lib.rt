@@ -4,10 +4,10 @@
 
 mod counts;
 mod formula;
-mod gathering;
 mod header;
+mod lists;
 pub mod numeral;
-mod pending;
+pub mod parts;
 mod reading;
 mod scan;
 mod scanner;

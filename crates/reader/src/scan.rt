@@ -1,97 +1,87 @@
-// Going through a text from byte to byte and from word to word.
-ghost use Rattle.std.specs.Prelude.{◌≡◌, ◌+◌, ◌^◌, ◌<◌, ◌≤◌, false, length, drop, MatchOption, slice_index};
-ghost use Rattle.std.specs.Option.{option_map};
+// Going through a text from word to word.
+ghost use Rattle.std.specs.Prelude.{◌≡◌, ◌≤◌, ◌==◌, cond, not, length, take, drop, count_by};
+ghost use Rattle.std.specs.List.{prefix_len};
+ghost use Rattle.std.specs.Iterator.{YieldsFirstBy, item_count};
 ghost use Rattle.textlines.specs.Lines.{blank};
-ghost use Rattle.reader.specs.Tokens.{line_behind, last_line, run, listed};
-ghost use Rattle.reader.specs.Scanning.{words_of, line_of};
+ghost use Rattle.reader.specs.Tokens.{line_past, last_line, line_before};
+ghost use Rattle.reader.specs.Scanning.{rest_of, words_of};
 
 use crate::scanner::Scanner;
-use textlines::is_blank;
+use textlines::{count_lines, is_blank};
 
-// The line of the byte behind a byte of a line.
-fn line_behind(byte: u8, line: usize) -> usize
-    requires { line < 2 ^ 32 }
-    ensures { result ≡ line_behind byte line }
+// How many bytes a text begins with that are blanks, or that are none. A flag and no closure: the two runs of a word differ in nothing
+// else.
+fn run(text: &[u8], blanks: bool) -> usize
+    ensures value { result ≡ prefix_len (λ b. cond blanks (blank b) (not (blank b))) text.now }
+    ensures fits { result ≤ length text.now }
 {
-    if byte == b'\n' { line + 1 } else { line }
+    text.iter()
+        .take_while(|byte| is_blank(**byte) == blanks)
+        .count()
+}
+
+// How many line feeds there are.
+fn feeds(bytes: &[u8]) -> usize
+    ensures { result ≡ count_by (λ b. b == 10) bytes.now }
+{
+    bytes.iter().filter(|byte| **byte == b'\n').count()
+}
+
+// The last line of a text that has a byte, or 1.
+pub(crate) fn last_line(text: &[u8]) -> usize
+    ensures { result ≡ last_line text.now }
+{
+    count_lines(text).max(1)
 }
 
 impl<'a> Scanner<'a> {
     // The beginning of a text.
     pub(crate) fn over(text: &'a [u8]) -> Scanner<'a>
         requires { length text.now ≤ 65536 }
-        ensures text { result.text ≡ text.entry }
-        ensures at { result.at ≡ 0 }
-        ensures line { result.line ≡ 1 }
+        ensures { rest_of result ≡ record { line = 1; bytes = text.now } }
     {
         Scanner {
-            text,
-            at: 0,
             line: 1,
+            rest: text,
         }
     }
 
-    // The line of a fault that comes up here.
-    pub(crate) fn here(&self) -> usize
-        ensures { result ≡ line_of self.now }
+    // The line of a fault of this text that comes up here.
+    pub(crate) fn here(&self, text: &[u8]) -> usize
+        ensures { result ≡ line_before text.now (rest_of self.now) }
     {
-        let text = self.text;
-        if self.at == text.len() && self.at > 0 && text[self.at - 1] == b'\n' {
-            return self.line - 1;
+        if self.rest.is_empty() {
+            return last_line(text);
         }
         self.line
     }
 
-    // Goes behind the next byte.
-    pub(crate) fn step(&mut self)
-        requires { self.old.at < length self.old.text.now }
-        ensures text { self.new.text ≡ self.old.text }
-        ensures at { self.new.at ≡ self.old.at + 1 }
-        ensures line { self.new.line ≡ line_behind (slice_index self.old.text.now self.old.at) self.old.line }
+    // Goes behind so many bytes, and gives them.
+    fn pass(&mut self, count: usize) -> &'a [u8]
+        requires { count ≤ length self.old.rest.now }
+        ensures passed { result.now ≡ take count self.old.rest.now }
+        ensures rest { self.new.rest.now ≡ drop count self.old.rest.now }
+        ensures line { self.new.line ≡ line_past (take count self.old.rest.now) self.old.line }
     {
-        let text = self.text;
-        self.line = line_behind(text[self.at], self.line);
-        self.at += 1;
+        let (passed, rest) = self.rest.split_at(count);
+        self.line += feeds(passed);
+        self.rest = rest;
+        passed
     }
+}
 
-    // Goes behind the blanks that stand here.
-    fn skip_blanks(&mut self)
-        ensures text { self.new.text ≡ self.old.text }
-        ensures onward { self.old.at ≤ self.new.at }
-        ensures words { words_of self.new ≡ words_of self.old }
-        ensures stops { self.new.at < length self.new.text.now → blank (slice_index self.new.text.now self.new.at) ≡ false }
-    {
-        while self.at < self.text.len() && is_blank(self.text[self.at]) {
-            self.step();
-        }
-    }
+// Its words, each with its line.
+impl<'a> Iterator for Scanner<'a> {
+    type Item = (usize, &'a [u8]);
 
-    // Where the run of bytes ends that are not blank.
-    fn word_end(&self) -> usize
-        ensures { result ≡ self.now.at + run (drop self.now.at self.now.text.now) }
-    {
-        let text = self.text;
-        let mut end = self.at;
-        while end < text.len() && !is_blank(text[end]) {
-            end += 1;
-        }
-        end
-    }
+    ghost next_gives = { YieldsFirstBy (λ word. record { line = word.0; bytes = word.1.now }) words_of };
 
-    // Goes behind the next word and gives it, or goes to the end of the text where there is none.
-    pub(crate) fn next_word(&mut self) -> Option<&'a [u8]>
-        ensures text { self.new.text ≡ self.old.text }
-        ensures words { words_of self.old ≡ listed (line_of self.new) (option_map (λ x. x.now) result) (words_of self.new) }
-        ensures onward { MatchOption result (line_of self.new ≡ last_line self.new.text.now) (λ _. self.old.at < self.new.at) }
-    {
-        self.skip_blanks();
-        let start = self.at;
-        let end = self.word_end();
-        if start == end {
-            return None;
-        }
-        self.at = end;
-        let text = self.text;
-        Some(&text[start..end])
+    ghost remaining = { item_count words_of };
+
+    fn next(&mut self) -> Option<(usize, &'a [u8])> {
+        self.pass(run(self.rest, true));
+        let line = self.line;
+        let word = self.pass(run(self.rest, false));
+        (!word.is_empty()).then_some((line, word))
     }
 }

@@ -1,13 +1,9 @@
-ghost use Rattle.std.specs.Prelude.{◌≡◌, ◌≤◌, length, take};
-ghost use Rattle.reader.specs.Tokens.{line_past};
+ghost use Rattle.std.specs.Prelude.{◌+◌, ◌≤◌, length};
 
-// A place in a text of at most 65,536 bytes, with its line.
+// What is left of a text of at most 65,536 bytes, with the line of its first byte.
 #[derive(Drop)]
 pub struct Scanner<'a> {
-    pub text: &'a [u8],
-    pub at: usize,
     pub line: usize,
-    ghost few: { length text.now ≤ 65536 },
-    ghost within: { at ≤ length text.now },
-    ghost counted: { line ≡ line_past (take at text.now) 1 },
+    pub rest: &'a [u8],
+    ghost few: { line + length rest.now ≤ 65537 },
 }

@@ -1,7 +1,6 @@
 -- Saved clauses as they lie in two stacks.
-use Rattle.std.proofs.Common.{◌≡◌, ℕ, ◌+◌, ◌<◌, ◌≤◌, cond, ltb, List, [], ◌∷◌, ◌++◌, length, get_or, take, drop, ℤ, pos, None, sym, refl, ap, ◌∙◌, arith}
+use Rattle.std.proofs.Common.{◌≡◌, ℕ, ◌+◌, ◌<◌, ◌≤◌, List, [], ◌∷◌, ◌++◌, length, get_or, take, drop, ℤ, pos, None, sym, refl, ap, ◌∙◌, arith}
 use Rattle.std.proofs.lemmas.List.{length-take-le, length-drop, length-map, length-append, map_push, take_more, append_assoc, nil_from_length, take_all, take-append-le, drop-append-le}
-use Rattle.std.proofs.lemmas.Bool.{lt-ltb}
 use Rattle.rules.specs.Restoring.{Room, saved_literals, save_fault}
 use Rattle.reconstruction.specs.declared.saved.SavedEntry.{SavedEntry}
 use Rattle.reconstruction.specs.declared.saved.SavedLiteral.{SavedLiteral}
@@ -29,18 +28,17 @@ literals_saved es ls e =
     let m = length-map ls (λ (l : SavedLiteral). l.value) in
     literals_weigh es (numbers ls) (omega arith) ∙ e
 
--- one literal more is pushed where there is room for all
-pub pushed_more : (xs ys : List SavedLiteral) (x : SavedLiteral) (old zs : List ℤ) (i most : ℕ) →
-    ys ≡ cond (ltb (length xs) most) (xs ++ x ∷ []) xs → numbers xs ≡ old ++ take i zs → i < length zs → length old + length zs ≤ most → x.value ≡ get_or zs i (pos 0) →
-    numbers ys ≡ old ++ take (i + 1) zs
-pushed_more xs ys x old zs i most e n h l v =
-    let m : length xs ≡ length old + i = sym (length-map xs (λ (l : SavedLiteral). l.value)) ∙ ap length n ∙ length-append old (take i zs) ∙ ap (λ k. length old + k) (length-take-le i zs (omega arith)) in
-    let b = lt-ltb (length xs) most (omega arith) in
-    let q : ys ≡ xs ++ x ∷ [] = e ∙ ap (λ t. cond t (xs ++ x ∷ []) xs) b in
-    let p = map_push (λ (l : SavedLiteral). l.value) xs x in
-    let t = take_more zs i (pos 0) h in
-    let a = append_assoc old (take i zs) (x.value ∷ []) in
-    cc
+-- the literals zs are pushed behind old ones, and i of them are there
+module _ (xs : List SavedLiteral) (old zs : List ℤ) (i : ℕ) (n : numbers xs ≡ old ++ take i zs) (h : i < length zs) where
+  pub pushed_count : length xs ≡ length old + i
+  pushed_count = sym (length-map xs (λ (l : SavedLiteral). l.value)) ∙ ap length n ∙ length-append old (take i zs) ∙ ap (λ k. length old + k) (length-take-le i zs (omega arith))
+
+  pub pushed_more : (x : SavedLiteral) → x.value ≡ get_or zs i (pos 0) → numbers (xs ++ x ∷ []) ≡ old ++ take (i + 1) zs
+  pushed_more x v =
+      let p = map_push (λ (l : SavedLiteral). l.value) xs x in
+      let t = take_more zs i (pos 0) h in
+      let a = append_assoc old (take i zs) (x.value ∷ []) in
+      cc
 
 -- one element more
 pub total_push : {X : Type 0} (w : X → ℕ) (xs : List X) (x : X) → total w (xs ++ x ∷ []) ≡ total w xs + w x
@@ -68,16 +66,11 @@ module _ (es : List SavedEntry) (ls : List SavedLiteral) (p : ℤ) (zs : List �
   pub zs_fit : length ls + length zs ≤ room.literals
   zs_fit = omega (arith, (fit_parts room (saved_from es (numbers ls)) 1 (length zs + 0) fits).1, literals_saved es ls adds)
 
-  module _ (es' : List SavedEntry) (ls' : List SavedLiteral) (e : SavedEntry)
-      (pushed : es' ≡ cond (ltb (length es) room.entries) (es ++ e ∷ []) es) (more : numbers ls' ≡ numbers ls ++ zs)
-      (is : e.pivot ≡ p) (n : e.count ≡ length zs) where
-    entered : es' ≡ es ++ e ∷ []
-    entered =
-        let f = (fit_parts room (saved_from es (numbers ls)) 1 (length zs + 0) fits).0 in
-        let l = length_saved es (numbers ls) in
-        let b = lt-ltb (length es) room.entries (omega arith) in
-        pushed ∙ ap (λ t. cond t (es ++ e ∷ []) es) b
+  pub one_fits : length es < room.entries
+  one_fits = omega (arith, (fit_parts room (saved_from es (numbers ls)) 1 (length zs + 0) fits).0, length_saved es (numbers ls))
 
+  module _ (es' : List SavedEntry) (ls' : List SavedLiteral) (e : SavedEntry)
+      (entered : es' ≡ es ++ e ∷ []) (more : numbers ls' ≡ numbers ls ++ zs) (is : e.pivot ≡ p) (n : e.count ≡ length zs) where
     pub adds_up : total entry_weight es' ≡ length ls'
     adds_up =
         let t = ap (total entry_weight) entered ∙ total_push entry_weight es e in
@@ -90,5 +83,4 @@ module _ (es : List SavedEntry) (ls : List SavedLiteral) (p : ℤ) (zs : List �
     saved_more =
         let m = length-map ls (λ (l : SavedLiteral). l.value) in
         let s = saved_push es e (numbers ls) zs (adds ∙ sym m) n in
-        let q = entered in
         cc

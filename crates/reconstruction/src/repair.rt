@@ -22,11 +22,10 @@ pub(crate) fn repair_all(entries: &[SavedEntry], literals: &[SavedLiteral], assi
     requires { total entry_weight entries.now ≡ length literals.now }
     ensures { assignment.new ≡ restored (saved_from entries.now (numbers literals.now)) assignment.old }
 {
-    let mut end = literals.len();
-    for i in (0..entries.len()).rev() {
-        let entry = entries[i];
-        let start = end - entry.weight();
-        repair(entry.pivot, &literals[start..end], assignment);
-        end = start;
+    let mut rest = literals;
+    for entry in entries.iter().rev() {
+        let (before, own) = rest.split_at(rest.len() - entry.weight());
+        repair(entry.pivot, own, assignment);
+        rest = before;
     }
 }

@@ -1,40 +1,36 @@
 ghost use Rattle.std.specs.Prelude.{◌≡◌};
+ghost use Rattle.words.specs.Assignments.{met};
 ghost use Rattle.words.specs.Checks.{fault_of, unless};
+ghost use Rattle.words.specs.Meanings.{lits_of};
 ghost use Rattle.rules.specs.Restoring.{bad_byte, first_unmet, restore_fault, restored};
 ghost use Rattle.reconstruction.specs.Meanings.{saved};
 
 use crate::saves::ReconstructionStack;
 use crate::truth::is_met;
-use database::ClauseDatabase;
-use words::SessionFault;
+use database::{ClauseDatabase, standing};
+use words::{Clause, SessionFault};
 
 // The position, from 1, of the first byte above 1, or none.
 fn first_bad_byte(assignment: &[u8]) -> Option<usize>
     ensures { result ≡ bad_byte 0 assignment.now }
 {
-    for (i, byte) in assignment.iter().enumerate() {
-        if *byte > 1 {
-            return Some(i + 1);
-        }
-    }
-    None
+    assignment.iter().position(|byte| *byte > 1).map(|i| i + 1)
+}
+
+// Whether an assignment meets a standing clause.
+fn meets(assignment: &[u8], clause: &Clause) -> bool
+    ensures { result ≡ met assignment.now (lits_of clause.now) }
+{
+    is_met(assignment, clause.literals())
 }
 
 // The lowest number of a standing clause that is not met, or none.
 fn first_unmet<D: ClauseDatabase>(db: &D, assignment: &[u8]) -> Option<u32>
     ensures { result ≡ first_unmet assignment.now (D.ClauseDatabase.standing db.now) }
 {
-    db.lawful();
-    let mut at = 0;
-    while let Some(number) = db.next(at) {
-        if let Some(clause) = db.clause(number) {
-            if !is_met(assignment, clause.literals()) {
-                return Some(number.value);
-            }
-        }
-        at = number.value;
-    }
-    None
+    standing(db)
+        .find(|entry| !meets(assignment, &entry.clause))
+        .map(|entry| entry.number.value)
 }
 
 // Why an assignment can't be restored: its length, then its bytes, then the standing clauses are checked.
@@ -45,7 +41,7 @@ fn check_assignment<D: ClauseDatabase>(
 ) -> Result<(), SessionFault>
     ensures { fault_of result ≡ restore_fault variables (D.ClauseDatabase.standing db.now) assignment.now }
 {
-    if assignment.len() != variables as usize {
+    if assignment.len() != usize::from(variables) {
         return Err(SessionFault::AssignmentLength(assignment.len()));
     }
     if let Some(position) = first_bad_byte(assignment) {

@@ -5,17 +5,27 @@ ghost use Rattle.reconstruction.specs.Weights.{entry_weight, literal_weight};
 
 use crate::stack::{Stack, Weighted};
 
-// A saved clause: its pivot and how many literals it has.
+// A saved clause: its pivot, not a `Literal`, since 0 makes the blanks of a memory, and how many literals it has.
 #[derive(Clone, Copy)]
 pub struct SavedEntry {
     pub pivot: i16,
     pub count: u8,
 }
 
-// A literal of a saved clause.
+impl SavedEntry {
+    // A clause without a literal, to make memories of.
+    pub const EMPTY: SavedEntry = SavedEntry { pivot: 0, count: 0 };
+}
+
+// A literal of a saved clause: not a `Literal`, since 0 makes the blanks of a memory.
 #[derive(Clone, Copy)]
 pub struct SavedLiteral {
     pub value: i16,
+}
+
+impl SavedLiteral {
+    // No literal, to make memories of.
+    pub const EMPTY: SavedLiteral = SavedLiteral { value: 0 };
 }
 
 // A saved clause weighs as much as its literals together.
@@ -23,7 +33,7 @@ impl Weighted for SavedEntry {
     ghost weight = { entry_weight };
 
     fn weight(&self) -> usize {
-        self.count as usize
+        usize::from(self.count)
     }
 }
 
@@ -45,7 +55,7 @@ impl Stack<'_, SavedLiteral> {
         ensures lender { self.new.slots.ghost_name ≡ self.old.slots.ghost_name }
     {
         for literal in literals {
-            let _ = self.push(SavedLiteral { value: *literal });
+            self.add(SavedLiteral { value: *literal });
         }
     }
 }

@@ -5,8 +5,8 @@ use words::{Clause, Literal};
 #[test]
 fn refuses_past_its_room(rt: HostRuntime) {
     let pivot = Literal { value: 1 };
-    let mut entries = [SavedEntry { pivot: 0, count: 0 }; 1];
-    let mut literals = [SavedLiteral { value: 0 }; 2];
+    let mut entries = [SavedEntry::EMPTY; 1];
+    let mut literals = [SavedLiteral::EMPTY; 2];
     let mut stack = ReconstructionStack::new(&mut entries, &mut literals);
     assert!(rt; stack.fits(1, 2).is_ok());
     assert!(rt; stack.fits(1, 3).is_err());
@@ -19,8 +19,8 @@ fn refuses_past_its_room(rt: HostRuntime) {
 #[test]
 fn repairs_from_last_to_first(rt: HostRuntime) {
     let pivot = Literal { value: 1 };
-    let mut entries = [SavedEntry { pivot: 0, count: 0 }; 2];
-    let mut literals = [SavedLiteral { value: 0 }; 0];
+    let mut entries = [SavedEntry::EMPTY; 2];
+    let mut literals = [SavedLiteral::EMPTY; 0];
     let mut stack = ReconstructionStack::new(&mut entries, &mut literals);
     assert!(rt; stack.save(pivot, &Clause::empty()).is_ok());
     assert!(rt; stack.save(pivot.negated(), &Clause::empty()).is_ok());

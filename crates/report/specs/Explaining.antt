@@ -7,14 +7,20 @@ use Rattle.words.specs.declared.fault.SessionFault.TheVariants as session
 use Rattle.words.specs.declared.fault.FileFault.{FileFault}
 use Rattle.words.specs.declared.fault.FileFault.TheVariants as file
 use Rattle.words.specs.declared.fault.LocatedFault.{LocatedFault}
+use Rattle.words.specs.declared.line.Field.{Field}
 use Rattle.words.specs.Refusals.{located_refusal}
 use Rattle.textlines.specs.Lines.{faulty_line}
-use Rattle.report.specs.Naming.{file_name, layer_name, field_name}
-use Rattle.report.specs.Meanings.{meaning}
+use Rattle.words.specs.Naming.{file_name, layer_name, field_name}
+use Rattle.words.specs.Conversions.{field_number}
+use Rattle.words.specs.Sentences.{file_meaning}
+
+-- a row: what was read, the line or 0, and the number
+abbrev pub row : List ℕ → ℕ → ℕ → List ℕ
+row name line number = name ++ (codes " " ++ (decimal line ++ (codes " " ++ decimal number)))
 
 -- the row of a refusal: the file, the line or 0, and the number
 abbrev pub refusal_row : LocatedFault → List ℕ
-refusal_row f = file_name f.file ++ (codes " " ++ (decimal f.line ++ (codes " " ++ decimal (located_refusal f).number)))
+refusal_row f = row (file_name f.file) f.line (located_refusal f).number
 
 -- a clause number
 abbrev pub clause_place : ℕ → List ℕ
@@ -25,8 +31,8 @@ abbrev pub clauses_place : ℕ → ℕ → List ℕ
 clauses_place a b = codes ": clauses " ++ (decimal a ++ (codes " and " ++ decimal b))
 
 -- a field of a line
-abbrev pub field_place : ℕ → List ℕ
-field_place i = codes ": field " ++ (decimal i ++ (codes " (" ++ (field_name i ++ codes ")")))
+abbrev pub field_place : Field → List ℕ
+field_place field = codes ": field " ++ (decimal (field_number field) ++ (codes " (" ++ (field_name field ++ codes ")")))
 
 -- a position in a list of literals
 abbrev pub list_place : ℕ → List ℕ
@@ -58,7 +64,7 @@ session_place session.LoadedFull = []
 session_place (session.LiteralBeyond i) = list_place i
 session_place (session.TooManyLiterals i) = list_place i
 session_place session.MarksDirty = []
-session_place (session.FieldWrong i) = field_place i
+session_place (session.FieldWrong field) = field_place field
 session_place (session.NumberNotAbove k) = clause_place k
 session_place (session.Missing k) = clause_place k
 session_place (session.Lacking k) = clause_place k
@@ -104,7 +110,7 @@ quoted (Some bs) = codes " " ++ front 200 bs
 -- the refusal in a sentence: its number, its layer, what it means, its place
 abbrev pub sentence : LocatedFault → List ℕ
 sentence f =
-    codes "refusal " ++ (decimal (located_refusal f).number ++ (codes " (" ++ (layer_name (located_refusal f).layer ++ (codes "): " ++ (meaning f ++ inner_place f.cause)))))
+    codes "refusal " ++ (decimal (located_refusal f).number ++ (codes " (" ++ (layer_name (located_refusal f).layer ++ (codes "): " ++ (file_meaning f.cause ++ inner_place f.cause)))))
 
 -- the explanation: a line with the faulty line, a line with the sentence
 abbrev pub explanation : List ℕ → List ℕ → LocatedFault → List ℕ

@@ -1,18 +1,12 @@
-// Refusals in plain words: names, meanings and places, and how a program prints them.
+// Refusals in plain words: rows for programs, headings, sentences and places for people.
 
 #![tactic(auto)]
 
-mod arguments;
-mod names;
 mod places;
-mod print;
-mod sentences;
+mod rows;
 mod texts;
 
-pub use arguments::{Arguments, command_line};
-pub use names::{file_name, layer_name};
-pub use print::{explain, print_refusal};
-pub use sentences::meaning;
+pub use rows::Row;
 pub use texts::{explanation, refusal_row, sentence};
 
 #[cfg(test)]

@@ -1,8 +1,7 @@
-use crate::{explanation, layer_name, meaning, refusal_row};
-use std::alloc::Global;
+use crate::{explanation, refusal_row};
 use std::process::Abort;
 use std::test::Fail;
-use words::{DatabaseFault, File, FileFault, LocatedFault, SessionFault, StackFault};
+use words::{DatabaseFault, Field, File, FileFault, LocatedFault, SessionFault, StackFault};
 
 const FORMULA: &[u8] = b"p cnf 2 2\n1 2 0\r\n-1 0";
 
@@ -45,7 +44,7 @@ const READING: [(FileFault, u8, &str); 15] = [
 
 // Every other fault of a session.
 const CALLS: [(SessionFault, u8, &str); 23] = [
-    (SessionFault::FieldWrong(3), 33, "submit"),
+    (SessionFault::FieldWrong(Field::Pivot), 33, "submit"),
     (SessionFault::MarksDirty, 40, "submit"),
     (SessionFault::NumberNotAbove(5), 41, "rule"),
     (SessionFault::Missing(5), 42, "rule"),
@@ -90,80 +89,76 @@ const CALLS: [(SessionFault, u8, &str); 23] = [
     (SessionFault::TextTooLong, 81, "write"),
 ];
 
-fn located(file: File, line: usize, cause: FileFault) -> LocatedFault {
-    LocatedFault { file, line, cause }
+// A fault has this number and this layer, and a sentence that says something.
+fn is_told(
+    rt: &(impl Abort + AllocGlobal),
+    fault: FileFault,
+    number: u8,
+    layer: &str,
+) -> Result<(), Fail> {
+    let refusal = fault.refusal(1);
+    assert_eq!(rt; refusal.number, number);
+    assert_eq!(rt; refusal.layer.to_string(rt.alloc())?.as_str(), layer);
+    assert!(rt; !fault.to_string(rt.alloc())?.is_empty(), "{}", number);
+    Ok(())
 }
 
-// A fault has this number and this layer, and a sentence that says something.
-fn is_told(rt: &impl Abort, cause: FileFault, number: u8, layer: &str) {
-    let fault = located(File::Formula, 1, cause);
-    assert_eq!(rt; fault.refusal().number, number);
-    assert_eq!(rt; layer_name(fault.refusal().layer), layer);
-    assert!(rt; !meaning(&fault).is_empty(), "{}", number);
+// The same of each fault of a list.
+fn are_told<F: Copy>(rt: &(impl Abort + AllocGlobal), faults: &[(F, u8, &str)]) -> Result<(), Fail>
+where
+    FileFault: From<F>,
+{
+    for (fault, number, layer) in faults {
+        is_told(rt, FileFault::from(*fault), *number, layer)?;
+    }
+    Ok(())
 }
 
 #[test]
-fn every_refusal_has_a_sentence(rt: HostRuntime) {
-    for (cause, number, layer) in &READING {
-        is_told(&rt, *cause, *number, layer);
-    }
-    for (fault, number, layer) in &CALLS {
-        is_told(&rt, FileFault::Session(*fault), *number, layer);
-    }
+fn every_refusal_has_a_sentence(rt: HostRuntime) -> Result<(), Fail> {
+    are_told(&rt, &READING)?;
+    are_told(&rt, &CALLS)
 }
 
 // A fault is explained so.
 fn is_explained(
-    rt: &impl Abort,
-    heap: Global,
-    fault: &LocatedFault,
+    rt: &(impl Abort + AllocGlobal),
+    fault: LocatedFault,
     expected: &str,
 ) -> Result<(), Fail> {
-    let text = explanation(heap, FORMULA, TRACE, fault)?;
+    let text = explanation(rt.alloc(), FORMULA, TRACE, &fault)?;
     assert_eq!(rt; text.as_slice(), expected.as_bytes(), "{}", expected);
     Ok(())
 }
 
 #[test]
 fn explanations(rt: HostRuntime) -> Result<(), Fail> {
-    let heap = rt.alloc();
-    let uncovered = FileFault::Session(SessionFault::NotCovered(1, 2));
+    let uncovered = FileFault::from(SessionFault::NotCovered(1, 2));
     is_explained(
         &rt,
-        heap,
-        &located(File::Trace, 2, uncovered),
+        uncovered.at(File::Trace, 2),
         "trace, line 2: E 0 1 0 0\nrefusal 48 (rule): the resolvent of a clause with the pivot and one with its negation neither holds an opposite pair nor stands: clauses 1 and 2\n",
     )?;
     is_explained(
         &rt,
-        heap,
-        &located(File::Formula, 2, FileFault::NotANumber),
+        FileFault::NotANumber.at(File::Formula, 2),
         "formula, line 2: 1 2 0\r\nrefusal 23 (formula): a word is not a number\n",
     )?;
+    let wrong_field = FileFault::from(SessionFault::FieldWrong(Field::Pivot));
     is_explained(
         &rt,
-        heap,
-        &located(
-            File::Trace,
-            9,
-            FileFault::Session(SessionFault::FieldWrong(3)),
-        ),
+        wrong_field.at(File::Trace, 9),
         "trace, line 9:\nrefusal 33 (submit): a field is 0 although the kind uses it, is filled although the kind does not use it, or is out of range: field 3 (pivot)\n",
     )?;
     is_explained(
         &rt,
-        heap,
-        &located(File::Formula, 0, FileFault::TooManyBytes),
+        FileFault::TooManyBytes.at(File::Formula, 0),
         "formula:\nrefusal 20 (file): the file has more than 65536 bytes\n",
     )?;
+    let short = FileFault::from(SessionFault::BufferShort);
     is_explained(
         &rt,
-        heap,
-        &located(
-            File::Write,
-            0,
-            FileFault::Session(SessionFault::BufferShort),
-        ),
+        short.at(File::Write, 0),
         "write:\nrefusal 80 (write): the buffer is shorter than the text\n",
     )
 }
@@ -179,7 +174,7 @@ fn has_at(rt: &impl Abort, bytes: &[u8], start: usize, expected: &[u8]) {
 fn long_lines(rt: HostRuntime) -> Result<(), Fail> {
     let heap = rt.alloc();
     let line = [b'x'; 201];
-    let fault = located(File::Formula, 1, FileFault::NotANumber);
+    let fault = FileFault::NotANumber.at(File::Formula, 1);
     let whole = explanation(heap, &line[..200], b"", &fault)?;
     let cut = explanation(heap, &line, b"", &fault)?;
     has_at(&rt, whole.as_slice(), 215, b"xx\n");
@@ -190,13 +185,10 @@ fn long_lines(rt: HostRuntime) -> Result<(), Fail> {
 
 #[test]
 fn rows(rt: HostRuntime) -> Result<(), Fail> {
-    let uncovered = FileFault::Session(SessionFault::NotCovered(1, 2));
-    let row = refusal_row(rt.alloc(), &located(File::Trace, 2, uncovered))?;
+    let uncovered = FileFault::from(SessionFault::NotCovered(1, 2));
+    let row = refusal_row(rt.alloc(), &uncovered.at(File::Trace, 2))?;
     assert_eq!(rt; row.as_str(), "trace 2 48");
-    let row = refusal_row(
-        rt.alloc(),
-        &located(File::Formula, 0, FileFault::TooManyBytes),
-    )?;
+    let row = refusal_row(rt.alloc(), &FileFault::TooManyBytes.at(File::Formula, 0))?;
     assert_eq!(rt; row.as_str(), "formula 0 20");
     Ok(())
 }

@@ -1,6 +1,8 @@
 -- The four kinds of proof lines: the fields in range, the rule with its checks in order, the space, and what an accepted line changes.
 use Rattle.std.specs.Prelude.{ℕ, ◌+◌, Bool, true, false, cond, not, ◌&&◌, ◌||◌, List, [], ◌∷◌, length, ℤ, neg_ℤ, Some, None, Option, ◌==◌, nat_le, nat_lt, unsigned_abs}
 use Rattle.words.specs.declared.limits.Limits.{Limits}
+use Rattle.words.specs.declared.line.Field.{Field}
+use Rattle.words.specs.declared.line.Field.TheVariants as field
 use Rattle.words.specs.declared.line.Kind.TheVariants.{Resolve, Subsumed, Blocked, Eliminate}
 use Rattle.words.specs.declared.line.Line.{Line}
 use Rattle.words.specs.declared.fault.SessionFault.{SessionFault}
@@ -22,14 +24,19 @@ fields line = elim line.kind [
   | Eliminate ↦ true ∷ ((line.clause == 0) ∷ ((literal_ok 512 line.pivot && positive line.pivot) ∷ ((line.first == 0) ∷ ((line.second == 0) ∷ []))))
 ]
 
--- the position, counted on from i, of the first that does not hold
-abbrev pub first_false : ℕ → List Bool → Option ℕ
-first_false i [] = None
-first_false i (b ∷ bs) = cond b (first_false (i + 1) bs) (Some (i + 1))
+-- the five fields, in their order
+abbrev pub all_fields : List Field
+all_fields = field.Kind ∷ (field.Clause ∷ (field.Pivot ∷ (field.First ∷ (field.Second ∷ []))))
+
+-- the first of some fields whose test does not hold
+abbrev pub first_wrong : List Field → List Bool → Option Field
+first_wrong [] bs = None
+first_wrong (f ∷ fs) [] = None
+first_wrong (f ∷ fs) (b ∷ bs) = cond b (first_wrong fs bs) (Some f)
 
 -- why the fields of a line are refused
 abbrev pub field_fault : Line → Option SessionFault
-field_fault line = inside FieldWrong (first_false 0 (fields line))
+field_fault line = inside FieldWrong (first_wrong all_fields (fields line))
 
 -- ── The rules, on the standing clauses s ──
 

@@ -34,46 +34,14 @@ pub fn seal(loading: Loading) -> Checking
     ensures accepted { accepted_count result ≡ 0 }
     ensures history { (l : Limits) (room : Room) (h : History) (s : List Entry) (saves : List Saved) → ToLoading l room h (formula_variables loading) (loaded_count loading) s saves → ToChecking l room (after h event.seal) (checking_variables result) (given_number result) (accepted_count result) s saves }
 {
-    sealed(loading)
-}
-
-fn sealed(loading: Loading) -> Checking
-    ensures variables { checking_variables result ≡ formula_variables loading }
-    ensures given { given_number result ≡ loaded_count loading }
-    ensures accepted { accepted_count result ≡ 0 }
-{
     Checking {
         variables: loading.variables(),
-        given: loading.loaded() as u32,
+        given: u32::from(loading.loaded()),
         accepted: 0,
     }
 }
 
 impl Checking {
-    // Carries a line out and counts it, or refuses it and changes nothing.
-    fn submit_line<D: ClauseDatabase>(
-        &mut self,
-        db: &mut D,
-        stack: &mut ReconstructionStack<'_>,
-        marks: &mut [u8],
-        line: &Line,
-    ) -> Result<(), SessionFault>
-        ensures fault { fault_of result ≡ submit_fault marks.old (D.limited db.old) (room_of stack.old) (given_number self.old) (D.standing db.old) (saved stack.old) line.now }
-        ensures variables { checking_variables self.new ≡ checking_variables self.old }
-        ensures given { given_number self.new ≡ unless (fault_of result) (line_gives (given_number self.old) line.now) (given_number self.old) }
-        ensures accepted { accepted_count self.new ≡ unless (fault_of result) (one_more (accepted_count self.old)) (accepted_count self.old) }
-        ensures database { D.standing db.new ≡ unless (fault_of result) (line_leaves (D.standing db.old) line.now) (D.standing db.old) }
-        ensures limits { D.limited db.new ≡ D.limited db.old }
-        ensures stack { saved stack.new ≡ unless (fault_of result) (saved stack.old ++ line_saves (D.standing db.old) line.now) (saved stack.old) }
-        ensures room { room_of stack.new ≡ room_of stack.old }
-        ensures marks { marks.new ≡ marks.old }
-        ensures wiped { clean_marks marks.old ≡ true → marks.new ≡ replicate 1024 0 }
-    {
-        carry_out(db, stack, marks, self.given, line)?;
-        self.given = given_after(self.given, line);
-        self.accepted = one_more(self.accepted);
-        Ok(())
-    }
     // Checks a line: the marks (40), its fields (33), its rule (41 to 48) and the space (60 to 66), in this order. An accepted line
     // does what its rule says; a refused one changes nothing. Clean marks are clean again on every way out. Every history that
     // leads to the session as it was, goes on with this call and its answer to the session as it is then.
@@ -96,15 +64,19 @@ impl Checking {
         ensures wiped { clean_marks marks.old ≡ true → marks.new ≡ replicate 1024 0 }
         ensures history { clean_marks marks.old ≡ true → (h : History) → ToChecking (D.limited db.old) (room_of stack.old) h (checking_variables self.old) (given_number self.old) (accepted_count self.old) (D.standing db.old) (saved stack.old) → ToChecking (D.limited db.new) (room_of stack.new) (after h (event.submit line.now (fault_of result))) (checking_variables self.new) (given_number self.new) (accepted_count self.new) (D.standing db.new) (saved stack.new) }
     {
-        self.submit_line(db, stack, marks, line)
+        carry_out(db, stack, marks, self.given, line)?;
+        self.given = given_after(self.given, line);
+        self.accepted = one_more(self.accepted);
+        Ok(())
     }
 
-    // Ends checking, and tells how many lines were accepted, how many clauses stand, and whether the empty one does.
-    fn finish_checking<D: ClauseDatabase>(self, db: &D) -> (Finished, Counts)
+    // Ends checking, and tells how many lines were accepted, how many clauses stand, and 1 if the empty clause does, else 0.
+    pub fn finish<D: ClauseDatabase>(self, db: &D) -> (Finished, Counts)
         ensures variables { finished_variables result.0 ≡ checking_variables self }
         ensures accepted { result.1.accepted ≡ accepted_count self }
         ensures standing { result.1.standing ≡ length (D.standing db.now) }
         ensures empty { result.1.empty ≡ empty_stands (D.standing db.now) }
+        ensures history { (room : Room) (saves : List Saved) (h : History) → ToChecking (D.limited db.now) room h (checking_variables self) (given_number self) (accepted_count self) (D.standing db.now) saves → ToFinished (D.limited db.now) room (after h (event.finish result.1.accepted result.1.standing result.1.empty)) (finished_variables result.0) (D.standing db.now) saves }
     {
         let counts = Counts {
             accepted: self.accepted,
@@ -117,17 +89,6 @@ impl Checking {
             },
             counts,
         )
-    }
-
-    // Ends checking, and tells how many lines were accepted, how many clauses stand, and 1 if the empty clause does, else 0.
-    pub fn finish<D: ClauseDatabase>(self, db: &D) -> (Finished, Counts)
-        ensures variables { finished_variables result.0 ≡ checking_variables self }
-        ensures accepted { result.1.accepted ≡ accepted_count self }
-        ensures standing { result.1.standing ≡ length (D.standing db.now) }
-        ensures empty { result.1.empty ≡ empty_stands (D.standing db.now) }
-        ensures history { (room : Room) (saves : List Saved) (h : History) → ToChecking (D.limited db.now) room h (checking_variables self) (given_number self) (accepted_count self) (D.standing db.now) saves → ToFinished (D.limited db.now) room (after h (event.finish result.1.accepted result.1.standing result.1.empty)) (finished_variables result.0) (D.standing db.now) saves }
-    {
-        self.finish_checking(db)
     }
 }
 

@@ -10,9 +10,7 @@ pub(crate) fn given_after(given: u32, line: &Line) -> u32
 {
     match line.kind {
         Kind::Resolve => line.clause,
-        Kind::Subsumed => given,
-        Kind::Blocked => given,
-        Kind::Eliminate => given,
+        Kind::Subsumed | Kind::Blocked | Kind::Eliminate => given,
     }
 }
 
@@ -22,9 +20,5 @@ pub(crate) fn one_more(accepted: u32) -> u32
     ensures value { result ≡ one_more accepted }
     ensures bound { result ≤ 1000000000 }
 {
-    if accepted < 1_000_000_000 {
-        accepted + 1
-    } else {
-        accepted
-    }
+    (accepted + 1).min(1_000_000_000)
 }

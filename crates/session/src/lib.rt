@@ -1,6 +1,6 @@
 // The session: after loading it is sealed into a checking session, which takes proof lines, and that is finished into one that
 // restores assignments and writes the reduced formula. Each of the three is a moved type of plain numbers; clause database,
-// reconstruction stack and marks are handed to each call.
+// reconstruction stack and marks are handed to each call, since they are the caller's memory and outlive each of the three.
 
 #![tactic(auto)]
 
@@ -27,8 +27,8 @@ pub struct Finished {
     variables: u16,
 }
 
-// What finish tells: how many lines were accepted, how many clauses stand, and 1 if the empty clause stands, else 0.
-#[derive(Clone, Copy)]
+// What finish tells: how many lines were accepted, how many clauses stand, and whether the empty clause does: 1 or 0, as finish tells it.
+#[derive(Clone, Copy, PartialEq, Eq, Debug)]
 pub struct Counts {
     pub accepted: u32,
     pub standing: usize,

@@ -1,5 +1,5 @@
 -- The lines of a text, as bytes, and the line that a fault names.
-use Rattle.std.specs.Prelude.{ℕ, suc, ◌+◌, ◌-◌, Bool, true, false, cond, ◌||◌, List, [], ◌∷◌, ◌++◌, Some, None, Option, ◌==◌}
+use Rattle.std.specs.Prelude.{ℕ, suc, ◌-◌, Bool, true, false, cond, ◌||◌, List, [], ◌∷◌, ◌++◌, Some, None, Option, ◌==◌}
 use Rattle.words.specs.declared.fault.File.{File}
 use Rattle.words.specs.declared.fault.File.TheVariants.{Formula, Trace, Write}
 use Rattle.words.specs.declared.fault.LocatedFault.{LocatedFault}
@@ -26,11 +26,6 @@ lines_on w (b ∷ bs) = cond (b == 10) (record { bytes = w; ended = true } ∷ l
 -- the lines of a text
 abbrev pub text_lines : List ℕ → List TextLine
 text_lines bs = lines_on [] bs
-
--- how many lines begin in a text, each with its first byte; whether the text's first byte begins one
-abbrev pub begun : Bool → List ℕ → ℕ
-begun first [] = 0
-begun first (b ∷ bs) = cond first 1 0 + begun (b == 10) bs
 
 -- how many bytes stand before the first x, all where there is none
 abbrev pub length_to : ℕ → List ℕ → ℕ

@@ -37,11 +37,7 @@ const LINES: [(&str, usize, Option<&str>); 22] = [
 ];
 
 fn fault(file: File, line: usize) -> LocatedFault {
-    LocatedFault {
-        file,
-        line,
-        cause: FileFault::NotANumber,
-    }
+    FileFault::NotANumber.at(file, line)
 }
 
 // Line and text go together, whichever of the two texts is named; the writer names none.
@@ -67,11 +63,7 @@ fn named(rt: &impl Abort, named: &str, line: usize, expected: Option<&[u8]>) -> 
 #[test]
 fn faulty_lines(rt: HostRuntime) -> Result<(), Fail> {
     for (text, line, expected) in &LINES {
-        let bytes = match expected {
-            Some(found) => Some(found.as_bytes()),
-            None => None,
-        };
-        named(&rt, text, *line, bytes)?;
+        named(&rt, text, *line, expected.map(|found| found.as_bytes()))?;
     }
     Ok(())
 }
@@ -101,10 +93,6 @@ fn bytes_are_found(rt: HostRuntime) {
     assert_eq!(rt; length_to(b'x', b"xax"), 0);
     assert_eq!(rt; length_to(b'x', b"abx"), 2);
     assert_eq!(rt; length_to(b'x', b"abc"), 3);
-    for byte in b" \t\r\n" {
-        assert_eq!(rt; is_blank(*byte), true);
-    }
-    for byte in b"0a\x0b\x0c\x00" {
-        assert_eq!(rt; is_blank(*byte), false);
-    }
+    assert!(rt; b" \t\r\n".iter().all(|byte| is_blank(*byte)));
+    assert!(rt; !b"0a\x0b\x0c\x00".iter().any(|byte| is_blank(*byte)));
 }

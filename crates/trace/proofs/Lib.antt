@@ -1,3 +1,3 @@
-pub mod Valued
+pub mod Counting
 pub mod Stepping
 pub mod Sending

@@ -2,6 +2,8 @@
 
 #![tactic(auto)]
 
+mod numbered;
+mod numbering;
 mod reading;
 mod values;
 

@@ -1,51 +1,35 @@
 // The values of a trace line, and the proof line that they are.
-ghost use Rattle.std.specs.Prelude.{◌≡◌, Some};
-ghost use Rattle.trace.specs.Values.{spaces, first_value, more_values, kind_value, line_behind_kind, line_of_values, parsed};
+ghost use Rattle.std.specs.Prelude.{◌≡◌};
+ghost use Rattle.trace.specs.Values.{spaces, first_value, more_values, kind_value, line_of_values, parsed};
 
 use reader::numeral::{number, unsigned_number};
-use textlines::length_to;
+use reader::parts::split_once;
 use words::{FileFault, Kind, Line};
 
 // How many spaces a line has.
 fn count_spaces(line: &[u8]) -> usize
     ensures { result ≡ spaces line.now }
 {
-    let mut count = 0;
-    for byte in line {
-        if *byte == b' ' {
-            count += 1;
-        }
-    }
-    count
+    line.iter().filter(|byte| **byte == b' ').count()
 }
 
-// The first of several values.
-fn first_value(values: &[u8]) -> &[u8]
-    ensures { result.now ≡ first_value values.now }
+// The first of several values, and those behind it: five calls read no worse than `split`, whose parts a proof has to tell apart one
+// by one.
+fn split_value(values: &[u8]) -> (&[u8], &[u8])
+    ensures first { result.0.now ≡ first_value values.now }
+    ensures more { result.1.now ≡ more_values values.now }
 {
-    let end = length_to(b' ', values);
-    &values[..end]
+    split_once(b' ', values).unwrap_or((values, &[]))
 }
 
-// The values behind it.
-fn more_values(values: &[u8]) -> &[u8]
-    ensures { result.now ≡ more_values values.now }
-{
-    let end = length_to(b' ', values);
-    if end == values.len() {
-        return &values[end..];
-    }
-    &values[end + 1..]
-}
-
-// The kind that a value names: R, S, B or E.
+// The kind that a value names: R, S, B or E. The letters are cases on characters by a rule of the project.
 fn read_kind(value: &[u8]) -> Option<Kind>
     ensures { result ≡ kind_value value.now }
 {
-    if value.len() != 1 {
+    let [letter] = value else {
         return None;
-    }
-    match value[0] as char {
+    };
+    match char::from(*letter) {
         'R' => Some(Kind::Resolve),
         'S' => Some(Kind::Subsumed),
         'B' => Some(Kind::Blocked),
@@ -54,32 +38,22 @@ fn read_kind(value: &[u8]) -> Option<Kind>
     }
 }
 
-// The line of a kind whose other values these are.
-fn read_fields(kind: Kind, values: &[u8]) -> Option<Line>
-    ensures { result ≡ line_behind_kind (Some kind) values.now }
-{
-    let clause = unsigned_number(first_value(values))?;
-    let values = more_values(values);
-    let pivot = number(first_value(values))?;
-    let values = more_values(values);
-    let first = unsigned_number(first_value(values))?;
-    let values = more_values(values);
-    let second = unsigned_number(first_value(values))?;
-    Some(Line {
-        kind,
-        clause,
-        pivot,
-        first,
-        second,
-    })
-}
-
 // The line whose five values these are.
 fn read_values(values: &[u8]) -> Option<Line>
     ensures { result ≡ line_of_values values.now }
 {
-    let kind = read_kind(first_value(values))?;
-    read_fields(kind, more_values(values))
+    let (kind, values) = split_value(values);
+    let (clause, values) = split_value(values);
+    let (pivot, values) = split_value(values);
+    let (first, values) = split_value(values);
+    let (second, _) = split_value(values);
+    Some(Line {
+        kind: read_kind(kind)?,
+        clause: unsigned_number(clause)?,
+        pivot: number(pivot)?,
+        first: unsigned_number(first)?,
+        second: unsigned_number(second)?,
+    })
 }
 
 // A text without its line feed as a proof line.
@@ -89,8 +63,5 @@ pub(crate) fn parse(line: &[u8]) -> Result<Line, FileFault>
     if count_spaces(line) != 4 {
         return Err(FileFault::NotFiveValues);
     }
-    match read_values(line) {
-        Some(line) => Ok(line),
-        None => Err(FileFault::ValueMalformed),
-    }
+    read_values(line).ok_or(FileFault::ValueMalformed)
 }

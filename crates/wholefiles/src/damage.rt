@@ -33,12 +33,12 @@ const TRACES: [(&str, usize, usize, usize); 3] = [
     ),
 ];
 
-// The assignment with a number: its bits, the lowest first.
+// The assignment with a number: its bits, the lowest first; on an array, as nothing is allocated for 200,000 runs.
 fn position(number: usize) -> [u8; 9] {
     let mut bytes = [0; 9];
     let mut left = number;
     for byte in bytes.iter_mut() {
-        *byte = if left % 2 == 1 { 1 } else { 0 };
+        *byte = u8::from(left % 2 == 1);
         left /= 2;
     }
     bytes
@@ -46,58 +46,52 @@ fn position(number: usize) -> [u8; 9] {
 
 // The variable count of a header, which is one digit here.
 fn variables(formula: &[u8]) -> usize {
-    match formula.get(6) {
-        Some(byte) => (byte.saturating_sub(b'0') as usize).min(9),
-        None => 0,
+    formula
+        .get(6)
+        .map_or(0, |byte| usize::from(byte.saturating_sub(b'0')).min(9))
+}
+
+// A task that was accepted: what came of a formula, and the text that was written.
+#[derive(Clone, Copy)]
+struct Task<'t, 'a, 's> {
+    finished: &'t Finished,
+    db: &'t Arena<'a>,
+    stack: &'t ReconstructionStack<'s>,
+    formula: &'t [u8],
+    written: &'t [u8],
+}
+
+impl Task<'_, '_, '_> {
+    // Whether an assignment is restored.
+    fn restores(&self, assignment: &mut [u8]) -> bool {
+        self.finished
+            .restore(self.db, self.stack, assignment)
+            .is_ok()
     }
-}
 
-// How many assignments there are.
-fn positions(variables: usize) -> usize {
-    let mut count = 1usize;
-    for _ in 0..variables {
-        count = count.saturating_mul(2);
+    // Holds what came of the formula to it, at one assignment.
+    fn holds_at(&self, rt: &impl Abort, number: usize) {
+        let mut bytes = position(number);
+        let assignment = &mut bytes[0..variables(self.formula).min(9)];
+        let stands = meets(self.written, assignment);
+        assert!(rt;
+            stands || !meets(self.formula, assignment),
+            "a position is lost"
+        );
+        assert_eq!(rt; self.restores(assignment), stands);
+        assert!(rt;
+            !stands || meets(self.formula, assignment),
+            "a restored position is wrong"
+        );
     }
-    count
-}
-
-// Whether an assignment is restored.
-fn is_restored(
-    finished: &Finished,
-    db: &Arena<'_>,
-    stack: &ReconstructionStack<'_>,
-    assignment: &mut [u8],
-) -> bool {
-    finished.restore(db, stack, assignment).is_ok()
-}
-
-// Holds a finished task to the formula, at one assignment.
-fn holds_at(
-    rt: &impl Abort,
-    finished: &Finished,
-    db: &Arena<'_>,
-    stack: &ReconstructionStack<'_>,
-    formula: &[u8],
-    written: &[u8],
-    number: usize,
-) {
-    let mut bytes = position(number);
-    let assignment = &mut bytes[0..variables(formula).min(9)];
-    let stands = meets(written, assignment);
-    assert!(rt; stands || !meets(formula, assignment), "a position is lost");
-    assert_eq!(rt; is_restored(finished, db, stack, assignment), stands);
-    assert!(rt;
-        !stands || meets(formula, assignment),
-        "a restored position is wrong"
-    );
 }
 
 // Checks two files on small memory; answers whether they are accepted, and holds what comes of them to the formula.
 fn is_accepted(rt: &impl Abort, formula: &[u8], trace: &[u8]) -> Result<bool, Fail> {
     let mut literals = [0i16; 64];
     let mut records = [Record::EMPTY; 16];
-    let mut entries = [SavedEntry { pivot: 0, count: 0 }; 16];
-    let mut saved = [SavedLiteral { value: 0 }; 64];
+    let mut entries = [SavedEntry::EMPTY; 16];
+    let mut saved = [SavedLiteral::EMPTY; 64];
     let mut marks = [0u8; 1_024];
     let mut buffer = [0u8; 256];
     let mut db = Arena::new(&mut literals, &mut records);
@@ -108,102 +102,100 @@ fn is_accepted(rt: &impl Abort, formula: &[u8], trace: &[u8]) -> Result<bool, Fa
     let Some(written) = buffer.get(0..report.length) else {
         return Err(Fail::new("a text beyond the buffer"));
     };
-    for number in 0..positions(variables(formula)) {
-        holds_at(rt, &report.finished, &db, &stack, formula, written, number);
+    let task = Task {
+        finished: &report.finished,
+        db: &db,
+        stack: &stack,
+        formula,
+        written,
+    };
+    for number in 0..1usize << variables(formula).min(9) {
+        task.holds_at(rt, number);
     }
     Ok(true)
 }
 
 // A text with one byte changed.
 fn changed(heap: Global, text: &[u8], at: usize, byte: u8) -> Result<Vec<u8>, AllocError> {
-    let mut copy = Vec::new(heap);
-    for (i, old) in text.iter().enumerate() {
-        copy.push(if i == at { byte } else { *old })?;
+    let mut copy = text.to_vec(heap)?;
+    if let Some(old) = copy.as_mut_slice().get_mut(at) {
+        *old = byte;
     }
     Ok(copy)
 }
 
-// How many changes of a byte of the formula are accepted.
-fn formulas_changed(rt: &impl Abort, heap: Global, at: usize, trace: &[u8]) -> Result<usize, Fail> {
-    let mut accepted = 0usize;
-    for value in 0..256u16 {
-        let formula = changed(heap, LISTING.as_bytes(), at, value as u8)?;
-        if is_accepted(rt, formula.as_slice(), trace)? {
-            accepted = accepted.saturating_add(1);
-        }
-    }
-    Ok(accepted)
-}
-
-// How many changes of a byte of a trace are accepted.
-fn traces_changed(rt: &impl Abort, heap: Global, at: usize, trace: &[u8]) -> Result<usize, Fail> {
-    let mut accepted = 0usize;
-    for value in 0..256u16 {
-        let trace = changed(heap, trace, at, value as u8)?;
-        if is_accepted(rt, LISTING.as_bytes(), trace.as_slice())? {
-            accepted = accepted.saturating_add(1);
-        }
-    }
-    Ok(accepted)
-}
-
-// How many shorter fronts of a formula are accepted.
-fn formulas_cut(rt: &impl Abort, formula: &[u8], trace: &[u8]) -> Result<usize, Fail> {
-    let mut accepted = 0usize;
-    for at in 0..formula.len() {
-        if is_accepted(rt, &formula[0..at], trace)? {
-            accepted = accepted.saturating_add(1);
-        }
-    }
-    Ok(accepted)
-}
-
-// How many shorter fronts of a trace are accepted.
-fn traces_cut(rt: &impl Abort, formula: &[u8], trace: &[u8]) -> Result<usize, Fail> {
-    let mut accepted = 0usize;
-    for at in 0..trace.len() {
-        if is_accepted(rt, formula, &trace[0..at])? {
-            accepted = accepted.saturating_add(1);
-        }
-    }
-    Ok(accepted)
-}
-
-// How many changes of a byte are accepted, of the formula and of the trace.
-fn both_changed(rt: &impl Abort, heap: Global, trace: &[u8]) -> Result<(usize, usize), Fail> {
-    let mut formulas = 0usize;
-    for at in 0..LISTING.len() {
-        formulas = formulas.saturating_add(formulas_changed(rt, heap, at, trace)?);
-    }
-    let mut traces = 0usize;
-    for at in 0..trace.len() {
-        traces = traces.saturating_add(traces_changed(rt, heap, at, trace)?);
-    }
-    Ok((formulas, traces))
-}
-
-// Of each row: so many damaged files are accepted.
-fn damaged(
-    rt: &impl Abort,
+// How many changes of a text at one place are accepted.
+fn changes_at<F: Fn(&[u8]) -> Result<bool, Fail>>(
     heap: Global,
-    table: &[(&str, usize, usize, usize)],
-) -> Result<(), Fail> {
-    for (trace, formulas, traces, fronts) in table {
-        assert_eq!(rt;
-            both_changed(rt, heap, trace.as_bytes())?,
-            (*formulas, *traces)
-        );
-        // of the formula only the last line feed may be missing; of the trace, whole lines behind the names
-        assert_eq!(rt; formulas_cut(rt, LISTING.as_bytes(), trace.as_bytes())?, 1);
-        assert_eq!(rt;
-            traces_cut(rt, LISTING.as_bytes(), trace.as_bytes())?,
-            *fronts
-        );
+    text: &[u8],
+    at: usize,
+    accepts: &F,
+) -> Result<usize, Fail>
+    requires { F.IsAlwaysCallable accepts.now }
+{
+    let mut accepted = 0usize;
+    for byte in 0..=255u8 {
+        let damaged = changed(heap, text, at, byte)?;
+        if accepts(damaged.as_slice())? {
+            accepted = accepted.saturating_add(1);
+        }
     }
+    Ok(accepted)
+}
+
+// How many changes of a byte of a text are accepted.
+fn changes<F: Fn(&[u8]) -> Result<bool, Fail>>(
+    heap: Global,
+    text: &[u8],
+    accepts: &F,
+) -> Result<usize, Fail>
+    requires { F.IsAlwaysCallable accepts.now }
+{
+    let mut accepted = 0usize;
+    for at in 0..text.len() {
+        accepted = accepted.saturating_add(changes_at(heap, text, at, accepts)?);
+    }
+    Ok(accepted)
+}
+
+// How many shorter fronts of a text are accepted. Beside `changes_at`, two that differ in what is damaged; a closure for it would be
+// longer.
+fn cuts<F: Fn(&[u8]) -> Result<bool, Fail>>(text: &[u8], accepts: &F) -> Result<usize, Fail>
+    requires { F.IsAlwaysCallable accepts.now }
+{
+    let mut accepted = 0usize;
+    for at in 0..text.len() {
+        if accepts(&text[..at])? {
+            accepted = accepted.saturating_add(1);
+        }
+    }
+    Ok(accepted)
+}
+
+// So many damaged files are accepted: formulas with the trace, and traces with the formula.
+fn damaged(
+    rt: &(impl Abort + AllocGlobal),
+    trace: &[u8],
+    formulas: usize,
+    traces: usize,
+    fronts: usize,
+) -> Result<(), Fail> {
+    let heap = rt.alloc();
+    let formula = LISTING.as_bytes();
+    let with_trace = |formula: &[u8]| is_accepted(rt, formula, trace);
+    let with_formula = |trace: &[u8]| is_accepted(rt, formula, trace);
+    assert_eq!(rt; changes(heap, formula, &with_trace)?, formulas);
+    assert_eq!(rt; changes(heap, trace, &with_formula)?, traces);
+    // of the formula only the last line feed may be missing; of the trace, whole lines behind the names
+    assert_eq!(rt; cuts(formula, &with_trace)?, 1);
+    assert_eq!(rt; cuts(trace, &with_formula)?, fronts);
     Ok(())
 }
 
 #[test]
 fn changed_and_cut(rt: HostRuntime) -> Result<(), Fail> {
-    damaged(&rt, rt.alloc(), &TRACES)
+    for (trace, formulas, traces, fronts) in &TRACES {
+        damaged(&rt, trace.as_bytes(), *formulas, *traces, *fronts)?;
+    }
+    Ok(())
 }

@@ -1,5 +1,5 @@
 // Formula files, each with a trace of no lines.
-use crate::tables::{files_accepted, formulas_refused};
+use crate::printout::Program;
 use std::test::Fail;
 
 const HEADERS: [(&str, &str); 20] = [
@@ -162,25 +162,25 @@ const WIDE: [(&str, &str); 3] = [
 
 #[test]
 fn headers(rt: HostRuntime) -> Result<(), Fail> {
-    formulas_refused(&rt, rt.alloc(), &HEADERS)
+    Program::new(&rt, rt.alloc())?.formulas_refused(&HEADERS)
 }
 
 #[test]
 fn words(rt: HostRuntime) -> Result<(), Fail> {
-    formulas_refused(&rt, rt.alloc(), &WORDS)
+    Program::new(&rt, rt.alloc())?.formulas_refused(&WORDS)
 }
 
 #[test]
 fn counts(rt: HostRuntime) -> Result<(), Fail> {
-    formulas_refused(&rt, rt.alloc(), &COUNTS)
+    Program::new(&rt, rt.alloc())?.formulas_refused(&COUNTS)
 }
 
 #[test]
 fn wide_lists(rt: HostRuntime) -> Result<(), Fail> {
-    formulas_refused(&rt, rt.alloc(), &WIDE)
+    Program::new(&rt, rt.alloc())?.formulas_refused(&WIDE)
 }
 
 #[test]
 fn read(rt: HostRuntime) -> Result<(), Fail> {
-    files_accepted(&rt, rt.alloc(), &READ)
+    Program::new(&rt, rt.alloc())?.files_accepted(&READ)
 }

@@ -1,5 +1,6 @@
 // Traces at the rules of the four kinds.
-use crate::tables::{LISTING, files_accepted, files_refused, lines_refused};
+use crate::printout::Program;
+use crate::tables::LISTING;
 use std::test::Fail;
 
 // Below the formula of four variables.
@@ -185,15 +186,15 @@ const ACCEPTED: [(&str, &str, &str, &str); 17] = [
 
 #[test]
 fn refused(rt: HostRuntime) -> Result<(), Fail> {
-    lines_refused(&rt, rt.alloc(), &REFUSED)
+    Program::new(&rt, rt.alloc())?.lines_refused(&REFUSED)
 }
 
 #[test]
 fn refused_others(rt: HostRuntime) -> Result<(), Fail> {
-    files_refused(&rt, rt.alloc(), &OTHERS)
+    Program::new(&rt, rt.alloc())?.files_refused(&OTHERS)
 }
 
 #[test]
 fn accepted(rt: HostRuntime) -> Result<(), Fail> {
-    files_accepted(&rt, rt.alloc(), &ACCEPTED)
+    Program::new(&rt, rt.alloc())?.files_accepted(&ACCEPTED)
 }

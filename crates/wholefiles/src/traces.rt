@@ -1,5 +1,5 @@
 // Trace files below the formula of four variables: names, values and fields.
-use crate::tables::{lines_refused, traces_refused};
+use crate::printout::Program;
 use std::test::Fail;
 
 // The line of names.
@@ -74,15 +74,15 @@ const FIELDS: [(&str, &str); 23] = [
 
 #[test]
 fn names(rt: HostRuntime) -> Result<(), Fail> {
-    traces_refused(&rt, rt.alloc(), &NAMED)
+    Program::new(&rt, rt.alloc())?.traces_refused(&NAMED)
 }
 
 #[test]
 fn values(rt: HostRuntime) -> Result<(), Fail> {
-    lines_refused(&rt, rt.alloc(), &VALUES)
+    Program::new(&rt, rt.alloc())?.lines_refused(&VALUES)
 }
 
 #[test]
 fn fields(rt: HostRuntime) -> Result<(), Fail> {
-    lines_refused(&rt, rt.alloc(), &FIELDS)
+    Program::new(&rt, rt.alloc())?.lines_refused(&FIELDS)
 }

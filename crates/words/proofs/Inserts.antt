@@ -1,10 +1,10 @@
 -- A literal put into a clause by its variable.
 use Rattle.std.proofs.Common.{◌≡◌, ℕ, ◌+◌, ◌<◌, ◌≤◌, Bool, true, false, cond, ◌&&◌, ◌||◌, ltb, List, [], ◌∷◌, ◌++◌, length, get_or, take, drop, ℤ, pos, neg_ℤ, nat_abs, sym, refl, ap, ◌∙◌, subst, ⊎_elim, arith}
-use Rattle.std.proofs.lemmas.List.{append-nil, length-append, length-take, take_at, drop_at, take_more, drop_more, take_all, drop_all, take-append-drop}
+use Rattle.std.proofs.lemmas.List.{append-nil, length-append, length-take, take_at, drop_at, drop_more, take_all, drop_all, take-append-drop}
 use Rattle.std.proofs.lemmas.Bool.{cases_Bool, cases_lt, cases_order, both_ways}
 use Rattle.std.proofs.lemmas.Bool.Decides.{nat_tests}
 use Rattle.words.specs.declared.spot.Spot.TheVariants.{Present, Opposite, Free}
-use Rattle.words.specs.Literals.{same}
+use Rattle.words.specs.Literals.{same, literals_ok}
 use Rattle.words.specs.Clauses.{has, insert, rising}
 use Rattle.words.specs.Spots.{Located}
 use Rattle.words.proofs.Literals.{same_is, same_eq, same_ne, same_apart, same_or_neg, nat_abs_neg}
@@ -22,11 +22,6 @@ has_push z zs l = let h = has_append z zs (l ∷ []) in grind (arith, nat_tests)
 abbrev pub lower : ℕ → List ℤ → Bool
 lower v [] = true
 lower v (x ∷ xs) = ltb (nat_abs x) v && lower v xs
-
--- a list with one literal more at its end
-pub lower_push : (v : ℕ) (xs : List ℤ) (x : ℤ) → lower v xs ≡ true → nat_abs x < v → lower v (xs ++ x ∷ []) ≡ true
-lower_push v [] x h k = grind (arith, nat_tests)
-lower_push v (y ∷ xs) x h k = let ih = lower_push v xs x in grind (arith, nat_tests, ih)
 
 -- a literal is not among those of lower variables
 pub has_front : (z : ℤ) (xs ys : List ℤ) → lower (nat_abs z) xs ≡ true → has z (xs ++ ys) ≡ has z ys
@@ -186,13 +181,6 @@ module _ (n : ℕ) (z : ℤ) (low : 0 < nat_abs z) (high : nat_abs z ≤ n) (c :
       subst (λ k. Located n z c (Free k)) l
       (subst (λ l. Located n z l (Free (length (take i c)))) parts (split_free n z low high (take i c) x (drop (i + 1) c) rises w p))
 
-  -- one literal more is of a lower variable
-  pub lower_more : nat_abs x < nat_abs z → lower (nat_abs z) (take (i + 1) c) ≡ true
-  lower_more p =
-      let t = take_more c i (pos 0) h in
-      let q : take (i + 1) c ≡ take i c ++ x ∷ [] = cc in
-      ap (lower (nat_abs z)) q ∙ lower_push (nat_abs z) (take i c) x w p
-
 -- where every literal of a clause is of a lower variable
 pub located_end : (n : ℕ) (z : ℤ) (low : 0 < nat_abs z) (high : nat_abs z ≤ n) (c : List ℤ) → rising n 0 c ≡ true → lower (nat_abs z) c ≡ true → Located n z c (Free (length c))
 located_end n z low high c r w =
@@ -206,3 +194,10 @@ located_end n z low high c r w =
     let ta = take_all (length c) c (omega arith) in
     let da = drop_all (length c) c (omega arith) in
     (t, t', omega arith, (cc), rising_insert n 0 z c r low high t')
+
+-- every number of a clause is a literal
+pub literals_of_rising : (n m : ℕ) (xs : List ℤ) → rising n m xs ≡ true → literals_ok n xs ≡ true
+literals_of_rising n m [] r = refl
+literals_of_rising n m (x ∷ xs) r =
+    let ih = literals_of_rising n (nat_abs x) xs in
+    grind (arith, nat_tests, ih)

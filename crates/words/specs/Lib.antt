@@ -8,3 +8,6 @@ pub mod Meanings
 pub mod Blocks
 pub mod Spots
 pub mod Marks
+pub mod Conversions
+pub mod Naming
+pub mod Sentences

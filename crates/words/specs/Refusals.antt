@@ -14,6 +14,7 @@ use Rattle.words.specs.declared.fault.SessionFault.TheVariants as session
 use Rattle.words.specs.declared.fault.FileFault.{FileFault}
 use Rattle.words.specs.declared.fault.FileFault.TheVariants as file
 use Rattle.words.specs.declared.fault.LocatedFault.{LocatedFault}
+use Rattle.words.specs.Conversions.{field_number}
 
 abbrev pub refusal : ℕ → Place → Layer → Refusal
 refusal n p l = record { number = n; place = p; layer = l }
@@ -41,7 +42,7 @@ session_refusal session.LoadedFull = refusal 27 Nowhere layer.Load
 session_refusal (session.LiteralBeyond i) = refusal 24 (At i) layer.Load
 session_refusal (session.TooManyLiterals i) = refusal 25 (At i) layer.Load
 session_refusal session.MarksDirty = refusal 40 Nowhere layer.Submit
-session_refusal (session.FieldWrong i) = refusal 33 (At i) layer.Submit
+session_refusal (session.FieldWrong f) = refusal 33 (At (field_number f)) layer.Submit
 session_refusal (session.NumberNotAbove k) = refusal 41 (At k) layer.Rule
 session_refusal (session.Missing k) = refusal 42 (At k) layer.Rule
 session_refusal (session.Lacking k) = refusal 43 (At k) layer.Rule

@@ -1,6 +1,8 @@
 ghost use Rattle.std.specs.Prelude.{◌≡◌};
 ghost use Rattle.words.specs.Blocks.{exchanged, overwritten};
 
+// Nothing changes where a block does not fit, so that no caller has to show that it does.
+
 // Exchanges two blocks that lie side by side; changes nothing where there are no such blocks.
 pub fn exchange<T>(s: &mut [T], from: usize, mid: usize, end: usize)
     ensures { s.new ≡ exchanged s.old from mid end }

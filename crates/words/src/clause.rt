@@ -1,4 +1,8 @@
 ghost use Rattle.std.specs.Prelude.{◌≡◌, ◌<◌, ◌≤◌, true, not, ◌&&◌, ◌||◌, [], length, take, neg_ℤ, if◌then◌else◌, nat_lt};
+ghost use Rattle.std.proofs.Common.{rules};
+ghost use Rattle.std.specs.Cmp.Rules.{comparing};
+ghost use Rattle.std.specs.Ordering.{int_eq, on};
+ghost use Rattle.std.specs.Cmp.Lexicographic.{pointwise};
 ghost use Rattle.std.specs.List.{insert as inserted};
 ghost use Rattle.words.specs.Clauses.{rising, has, insert};
 ghost use Rattle.words.specs.Spots.{Located};
@@ -7,13 +11,29 @@ use crate::blocks::exchange;
 use crate::literal::Literal;
 use crate::spot::Spot;
 
-// A clause: at most 64 literals of different variables, by rising variable.
+// A clause: at most 64 literals of different variables, by rising variable. It is an array and a length, since callers copy clauses,
+// and the kit's `ArrayVec` can't be copied.
 #[derive(Clone, Copy)]
 pub struct Clause {
     pub lits: [i16; 64],
     pub len: usize,
     ghost few: { len ≤ 64 },
     ghost rises: { rising 512 0 (take len lits) ≡ true },
+}
+
+// Two clauses are equal where they have the same literals: what lies behind those does not count.
+impl PartialEq for Clause {
+    ghost eq = { on (λ c. take c.len c.lits) (pointwise int_eq) };
+
+    ghost laws = { Prim.search (comparing, rules) };
+
+    fn eq(&self, other: &Clause) -> bool {
+        self.literals() == other.literals()
+    }
+}
+
+impl Eq for Clause {
+    ghost laws = { Prim.search (comparing, rules) };
 }
 
 impl Clause {
@@ -38,11 +58,7 @@ impl Clause {
     pub fn has(&self, l: Literal) -> bool
         ensures { result ≡ has l.value (take self.now.len self.now.lits) }
     {
-        match self.locate(l) {
-            Spot::Present => true,
-            Spot::Opposite => false,
-            Spot::Free(_) => false,
-        }
+        matches!(self.locate(l), Spot::Present)
     }
 
     // Puts a literal in by its variable, and tells whether it is in the clause then. Where its negation is there or 64 others
@@ -69,20 +85,13 @@ impl Clause {
         ensures spot { Located 512 l.value (take self.now.len self.now.lits) result }
         ensures size { length (take self.now.len self.now.lits) ≡ self.now.len }
     {
-        let v = l.value.unsigned_abs();
-        for (i, x) in self.literals().iter().enumerate() {
-            let w = x.unsigned_abs();
-            if w > v {
-                return Spot::Free(i);
-            }
-            if *x == l.value {
-                return Spot::Present;
-            }
-            if w == v {
-                return Spot::Opposite;
-            }
+        let literals = self.literals();
+        let found = literals.binary_search_by_key(&l.value.unsigned_abs(), |x| x.unsigned_abs());
+        match found {
+            Ok(at) if literals[at] == l.value => Spot::Present,
+            Ok(_) => Spot::Opposite,
+            Err(at) => Spot::Free(at),
         }
-        Spot::Free(self.len)
     }
 
     // Puts a literal in at the place where it belongs.

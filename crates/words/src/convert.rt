@@ -4,6 +4,8 @@ ghost use Rattle.words.specs.declared.fault.FileFault.TheVariants.{Session};
 
 use crate::fault::{DatabaseFault, FileFault, SessionFault, StackFault};
 
+// Each conversion is written out, so that a clause may name the fault that a `?` makes of another.
+
 // A fault of a clause database travels whole inside one of the session.
 impl From<DatabaseFault> for SessionFault {
     ghost from_gives = { λ e r. r ≡ Database e };

@@ -1,10 +1,11 @@
 ghost use Rattle.std.specs.Prelude.{◌≡◌};
 ghost use Rattle.words.specs.Refusals.{database_refusal, stack_refusal, session_refusal, file_refusal, located_refusal};
 
+use crate::line::Field;
 use crate::refusal::{Layer, Place, Refusal};
 
 // Why a clause database refuses.
-#[derive(Clone, Copy)]
+#[derive(Clone, Copy, PartialEq, Eq, Debug)]
 pub enum DatabaseFault {
     // no clause stands under this number
     Absent(u32),
@@ -16,14 +17,14 @@ pub enum DatabaseFault {
 }
 
 // Why the reconstruction stack refuses.
-#[derive(Clone, Copy)]
+#[derive(Clone, Copy, PartialEq, Eq, Debug)]
 pub enum StackFault {
     EntriesFull,
     LiteralsFull,
 }
 
 // Why a call of a session refuses.
-#[derive(Clone, Copy)]
+#[derive(Clone, Copy, PartialEq, Eq, Debug)]
 pub enum SessionFault {
     // opening
     DatabaseNotEmpty,
@@ -35,7 +36,7 @@ pub enum SessionFault {
     TooManyLiterals(usize),
     // submitting; the field
     MarksDirty,
-    FieldWrong(u8),
+    FieldWrong(Field),
     // the rules; the clause numbers at fault
     NumberNotAbove(u32),
     Missing(u32),
@@ -58,7 +59,7 @@ pub enum SessionFault {
 }
 
 // Why reading a file ends.
-#[derive(Clone, Copy)]
+#[derive(Clone, Copy, PartialEq, Eq, Debug)]
 pub enum FileFault {
     TooManyBytes,
     // the formula
@@ -83,14 +84,15 @@ pub enum File {
     Write,
 }
 
-// A fault with the file and the line where it came up; line 0 where there is none.
-#[derive(Clone, Copy)]
+// A fault with the file and the line where it came up; line 0 where there is none, and no Option, since it is told as a number.
+#[derive(Clone, Copy, PartialEq, Eq, Debug)]
 pub struct LocatedFault {
     pub file: File,
     pub line: usize,
     pub cause: FileFault,
 }
 
+// A refusal of its three parts. A clause number is cast to a place by `as`, since the library has no `From` of a u32 for a usize.
 fn refusal(number: u8, place: Place, layer: Layer) -> Refusal
     ensures { result ≡ record { number = number; place = place; layer = layer } }
 {
@@ -101,6 +103,7 @@ fn refusal(number: u8, place: Place, layer: Layer) -> Refusal
     }
 }
 
+// What each fault tells is a method and no `From`, since a fault of a file needs its line besides.
 impl DatabaseFault {
     // The number, the place and the layer.
     pub fn refusal(&self) -> Refusal
@@ -142,7 +145,7 @@ impl SessionFault {
             SessionFault::LiteralBeyond(i) => refusal(24, Place::At(i), Layer::Load),
             SessionFault::TooManyLiterals(i) => refusal(25, Place::At(i), Layer::Load),
             SessionFault::MarksDirty => refusal(40, Place::Nowhere, Layer::Submit),
-            SessionFault::FieldWrong(i) => refusal(33, Place::At(i as usize), Layer::Submit),
+            SessionFault::FieldWrong(f) => refusal(33, Place::At(f.number()), Layer::Submit),
             SessionFault::NumberNotAbove(k) => refusal(41, Place::At(k as usize), Layer::Rule),
             SessionFault::Missing(k) => refusal(42, Place::At(k as usize), Layer::Rule),
             SessionFault::Lacking(k) => refusal(43, Place::At(k as usize), Layer::Rule),
@@ -163,6 +166,17 @@ impl SessionFault {
 }
 
 impl FileFault {
+    // The fault where it came up: in a file, at a line, or at line 0 where there is none.
+    pub fn at(self, file: File, line: usize) -> LocatedFault
+        ensures { result ≡ record { file = file; line = line; cause = self } }
+    {
+        LocatedFault {
+            file,
+            line,
+            cause: self,
+        }
+    }
+
     // The number, the place and the layer, where the fault came up at this line.
     pub fn refusal(&self, line: usize) -> Refusal
         ensures { result ≡ file_refusal self.now line }

@@ -1,5 +1,5 @@
 // The four limits of a clause database, fixed when it is made.
-#[derive(Clone, Copy)]
+#[derive(Clone, Copy, PartialEq, Eq, Debug)]
 pub struct Limits {
     // the highest variable
     pub variables: usize,

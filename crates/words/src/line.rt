@@ -1,5 +1,8 @@
+ghost use Rattle.std.specs.Prelude.{◌≡◌};
+ghost use Rattle.words.specs.Conversions.{field_number};
+
 // What a proof line does.
-#[derive(Clone, Copy)]
+#[derive(Clone, Copy, PartialEq, Eq, Debug)]
 pub enum Kind {
     // R: adds the resolvent of two clauses
     Resolve,
@@ -11,8 +14,33 @@ pub enum Kind {
     Eliminate,
 }
 
+// A field of a proof line.
+#[derive(Clone, Copy, PartialEq, Eq, Debug)]
+pub enum Field {
+    Kind,
+    Clause,
+    Pivot,
+    First,
+    Second,
+}
+
+impl Field {
+    // Its place in the line, from 1.
+    pub fn number(self) -> usize
+        ensures { result ≡ field_number self }
+    {
+        match self {
+            Field::Kind => 1,
+            Field::Clause => 2,
+            Field::Pivot => 3,
+            Field::First => 4,
+            Field::Second => 5,
+        }
+    }
+}
+
 // A proof line as it is sent: five fields, of which those that the kind does not use are 0. Nothing is known of its numbers.
-#[derive(Clone, Copy)]
+#[derive(Clone, Copy, PartialEq, Eq, Debug)]
 pub struct Line {
     pub kind: Kind,
     pub clause: u32,

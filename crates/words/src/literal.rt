@@ -1,28 +1,44 @@
-ghost use Rattle.std.specs.Prelude.{◌≡◌, ◌<◌, ◌≤◌, neg_ℤ, MatchOption, unsigned_abs};
-ghost use Rattle.words.specs.Literals.{positive};
+ghost use Rattle.std.specs.Prelude.{◌≡◌, ◌<◌, ◌≤◌, neg_ℤ, unsigned_abs};
+ghost use Rattle.words.specs.Literals.{positive, literal_ok};
+ghost use Rattle.words.specs.Conversions.{Converts};
 ghost use Rattle.words.specs.Marks.{mark_place};
 
+use crate::range::OutOfRange;
 use crate::variable::Variable;
 
 // A literal: a variable v, or its negation as -v.
-#[derive(Clone, Copy)]
+#[derive(Clone, Copy, PartialEq, Eq, Debug)]
 pub struct Literal {
     pub value: i16,
     ghost low: { 1 ≤ unsigned_abs value },
     ghost high: { unsigned_abs value ≤ 512 },
 }
 
-impl Literal {
-    // The literal of a number, or none where there is no such literal.
-    pub fn new(value: i16) -> Option<Literal>
-        ensures { MatchOption result ((1 ≤ unsigned_abs value) × (unsigned_abs value ≤ 512) → ⊥) (λ l. l.value ≡ value) }
-    {
-        if value == 0 || value.unsigned_abs() > 512 {
-            return None;
-        }
-        Some(Literal { value })
-    }
+impl TryFrom<i16> for Literal {
+    type Error = OutOfRange;
 
+    ghost try_from_gives = { Converts (λ l. l.value) (literal_ok 512) };
+
+    fn try_from(value: i16) -> Result<Literal, OutOfRange> {
+        if value == 0 || value.unsigned_abs() > 512 {
+            return Err(OutOfRange);
+        }
+        Ok(Literal { value })
+    }
+}
+
+impl TryFrom<i32> for Literal {
+    type Error = OutOfRange;
+
+    ghost try_from_gives = { Converts (λ l. l.value) (literal_ok 512) };
+
+    fn try_from(value: i32) -> Result<Literal, OutOfRange> {
+        let narrow = i16::try_from(value)?;
+        Literal::try_from(narrow)
+    }
+}
+
+impl Literal {
     // Its variable.
     pub fn variable(&self) -> Variable
         ensures { result.value ≡ unsigned_abs self.now.value }
@@ -51,7 +67,7 @@ impl Literal {
         ensures value { result ≡ mark_place 512 self.now.value }
         ensures bound { result < 1024 }
     {
-        let v = self.value.unsigned_abs() as usize;
+        let v = usize::from(self.value.unsigned_abs());
         if self.is_positive() { v - 1 } else { 511 + v }
     }
 }

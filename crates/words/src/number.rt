@@ -1,21 +1,26 @@
-ghost use Rattle.std.specs.Prelude.{◌≡◌, ◌≤◌, MatchOption};
+ghost use Rattle.std.specs.Prelude.{◌≤◌};
+ghost use Rattle.words.specs.Literals.{number_ok};
+ghost use Rattle.words.specs.Conversions.{Converts};
+
+use crate::range::OutOfRange;
 
 // The number of a clause: from 1 to 1,000,000.
-#[derive(Clone, Copy)]
+#[derive(Clone, Copy, PartialEq, Eq, PartialOrd, Ord, Debug)]
 pub struct ClauseNumber {
     pub value: u32,
     ghost low: { 1 ≤ value },
     ghost high: { value ≤ 1000000 },
 }
 
-impl ClauseNumber {
-    // The clause number of a number, or none where there is no such clause number.
-    pub fn new(value: u32) -> Option<ClauseNumber>
-        ensures { MatchOption result ((1 ≤ value) × (value ≤ 1000000) → ⊥) (λ k. k.value ≡ value) }
-    {
+impl TryFrom<u32> for ClauseNumber {
+    type Error = OutOfRange;
+
+    ghost try_from_gives = { Converts (λ k. k.value) number_ok };
+
+    fn try_from(value: u32) -> Result<ClauseNumber, OutOfRange> {
         if value == 0 || value > 1_000_000 {
-            return None;
+            return Err(OutOfRange);
         }
-        Some(ClauseNumber { value })
+        Ok(ClauseNumber { value })
     }
 }

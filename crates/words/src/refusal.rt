@@ -24,7 +24,7 @@ pub enum Layer {
     Write,
 }
 
-// A refusal as it is told: its number, its place and its layer.
+// A refusal as it is told: its number, its place and its layer. Inside, a refusal is a case of a fault; the number is for those who are told.
 #[derive(Clone, Copy, PartialEq, Eq, Debug)]
 pub struct Refusal {
     pub number: u8,

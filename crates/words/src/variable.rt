@@ -1,21 +1,26 @@
-ghost use Rattle.std.specs.Prelude.{◌≡◌, ◌≤◌, MatchOption};
+ghost use Rattle.std.specs.Prelude.{◌≤◌};
+ghost use Rattle.words.specs.Literals.{variable_ok};
+ghost use Rattle.words.specs.Conversions.{Converts};
+
+use crate::range::OutOfRange;
 
 // A variable: a number from 1 to 512.
-#[derive(Clone, Copy)]
+#[derive(Clone, Copy, PartialEq, Eq, PartialOrd, Ord, Debug)]
 pub struct Variable {
     pub value: u16,
     ghost low: { 1 ≤ value },
     ghost high: { value ≤ 512 },
 }
 
-impl Variable {
-    // The variable of a number, or none where there is no such variable.
-    pub fn new(value: u16) -> Option<Variable>
-        ensures { MatchOption result ((1 ≤ value) × (value ≤ 512) → ⊥) (λ v. v.value ≡ value) }
-    {
+impl TryFrom<u16> for Variable {
+    type Error = OutOfRange;
+
+    ghost try_from_gives = { Converts (λ v. v.value) (variable_ok 512) };
+
+    fn try_from(value: u16) -> Result<Variable, OutOfRange> {
         if value == 0 || value > 512 {
-            return None;
+            return Err(OutOfRange);
         }
-        Some(Variable { value })
+        Ok(Variable { value })
     }
 }

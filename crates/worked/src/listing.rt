@@ -4,10 +4,10 @@ use arena::{Arena, Record};
 use bitmask::Bitmask;
 use database::ClauseDatabase;
 use reconstruction::{ReconstructionStack, SavedEntry, SavedLiteral};
-use session::{Checking, Finished};
+use session::Finished;
 use std::process::Abort;
 use std::test::Fail;
-use words::{Kind, Layer, Line, Place};
+use words::{Kind, Layer, Line, Place, Refusal};
 
 fn lines() -> [Line; 5] {
     [
@@ -19,6 +19,14 @@ fn lines() -> [Line; 5] {
     ]
 }
 
+// The reduced formula as it is written.
+fn writes<D: ClauseDatabase>(rt: &impl Abort, finished: &Finished, db: &D) -> Result<(), Fail> {
+    let mut text = [0u8; 32];
+    assert_eq!(rt; finished.write(db, &mut text)?, 21);
+    assert!(rt; text.starts_with(b"p cnf 4 2\n-3 4 0\n3 0\n"));
+    Ok(())
+}
+
 // Restores what meets the two clauses that stand, and refuses what does not.
 fn restores<D: ClauseDatabase>(
     rt: &impl Abort,
@@ -27,60 +35,29 @@ fn restores<D: ClauseDatabase>(
     stack: &ReconstructionStack<'_>,
 ) -> Result<(), Fail> {
     let mut position = [0u8, 0, 1, 1];
-    assert!(rt; finished.restore(db, stack, &mut position).is_ok());
+    finished.restore(db, stack, &mut position)?;
     assert_eq!(rt; position, [1, 0, 1, 1]);
     let mut wrong = [0u8, 0, 0, 0];
-    refused(
-        rt,
-        finished.restore(db, stack, &mut wrong),
-        72,
-        Place::At(7),
-        Layer::Restore,
-    )?;
+    let unmet = Refusal {
+        number: 72,
+        place: Place::At(7),
+        layer: Layer::Restore,
+    };
+    refused(rt, finished.restore(db, stack, &mut wrong), unmet);
     assert_eq!(rt; wrong, [0, 0, 0, 0]);
     Ok(())
 }
 
-// Submits the lines in order; all are accepted.
-fn submit_all<D: ClauseDatabase>(
-    rt: &impl Abort,
-    session: &mut Checking,
-    db: &mut D,
-    stack: &mut ReconstructionStack<'_>,
-    marks: &mut [u8],
-) {
-    for step in lines() {
-        assert!(rt;
-            session.submit(db, stack, marks, &step).is_ok(),
-            "a line is refused"
-        );
-    }
-}
-
-// The reduced formula as it is written.
-fn writes<D: ClauseDatabase>(rt: &impl Abort, finished: &Finished, db: &D) -> Result<(), Fail> {
-    let mut text = [0u8; 32];
-    match finished.write(db, &mut text) {
-        Ok(len) => assert_eq!(rt; len, 21),
-        Err(_) => return Err(Fail::new("writing is refused")),
-    }
-    assert!(rt; text.starts_with(b"p cnf 4 2\n-3 4 0\n3 0\n"));
-    Ok(())
-}
-
 fn run_listing<D: ClauseDatabase>(rt: &impl Abort, db: &mut D) -> Result<(), Fail> {
-    let mut entries = [SavedEntry { pivot: 0, count: 0 }; 8];
-    let mut literals = [SavedLiteral { value: 0 }; 16];
+    let mut entries = [SavedEntry::EMPTY; 8];
+    let mut literals = [SavedLiteral::EMPTY; 16];
     let mut stack = ReconstructionStack::new(&mut entries, &mut literals);
     let mut marks = [0u8; 1024];
-    let mut session = loaded(
-        rt,
-        db,
-        &stack,
-        4,
-        &[&[1, 2], &[-1, 3], &[-2, 3], &[-3, 4], &[2, -2]],
-    )?;
-    submit_all(rt, &mut session, db, &mut stack, &mut marks);
+    let lists: [&[i16]; 5] = [&[1, 2], &[-1, 3], &[-2, 3], &[-3, 4], &[2, -2]];
+    let mut session = loaded(db, &stack, 4, &lists)?;
+    for line in lines() {
+        session.submit(db, &mut stack, &mut marks, &line)?;
+    }
     let (finished, counts) = session.finish(db);
     assert_eq!(rt; counts.accepted, 5);
     assert_eq!(rt; counts.standing, 2);
@@ -93,12 +70,10 @@ fn run_listing<D: ClauseDatabase>(rt: &impl Abort, db: &mut D) -> Result<(), Fai
 fn listing_on_the_arena(rt: HostRuntime) -> Result<(), Fail> {
     let mut literals = [0i16; 32];
     let mut records = [Record::EMPTY; 8];
-    let mut db = Arena::new(&mut literals, &mut records);
-    run_listing(&rt, &mut db)
+    run_listing(&rt, &mut Arena::new(&mut literals, &mut records))
 }
 
 #[test]
 fn listing_on_the_bitmask_kind(rt: HostRuntime) -> Result<(), Fail> {
-    let mut db = Bitmask::new();
-    run_listing(&rt, &mut db)
+    run_listing(&rt, &mut Bitmask::new())
 }

@@ -1,4 +1,3 @@
 pub mod Puts
-pub mod Walks
 pub mod Bounds
 pub mod Examples

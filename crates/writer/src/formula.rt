@@ -1,40 +1,31 @@
 // A whole formula written into a buffer: the header and the standing clauses by rising number.
-ghost use Rattle.std.specs.Prelude.{◌≡◌, ◌+◌, ◌^◌, ◌<◌, ◌≤◌, length};
-ghost use Rattle.std.proofs.lemmas.List.Edits.{sets};
+ghost use Rattle.std.specs.Prelude.{◌≡◌, ◌≤◌, length};
+ghost use Rattle.output.specs.Puts.{Puts};
 ghost use Rattle.writer.specs.Text.{header_text, clauses_text, formula_text};
 ghost use Rattle.writer.specs.Writing.{fronted};
 
-use crate::put::{put_bytes, put_clause, put_decimal};
-use database::ClauseDatabase;
+use crate::put::{put_clause, put_number};
+use database::{ClauseDatabase, standing};
+use output::Output;
 
-// Writes the header.
-fn put_header(buffer: &mut [u8], variables: u16, count: usize) -> usize
-    ensures bytes { buffer.new ≡ sets buffer.old 0 (header_text variables count) }
-    ensures end { result ≡ length (header_text variables count) }
+// Puts the header.
+fn put_header(out: &mut Output, variables: u16, count: usize)
+    ensures { Puts (header_text variables count) out.old out.new }
 {
-    let mut end = put_bytes(buffer, 0, b"p cnf ");
-    end = put_decimal(buffer, end, variables as usize);
-    end = put_bytes(buffer, end, b" ");
-    end = put_decimal(buffer, end, count);
-    put_bytes(buffer, end, b"\n")
+    out.extend_from_slice(b"p cnf ");
+    put_number(out, variables);
+    out.push(b' ');
+    put_number(out, count);
+    out.push(b'\n');
 }
 
-// Writes the standing clauses, one a line.
-fn put_clauses<D: ClauseDatabase>(db: &D, buffer: &mut [u8], at: usize) -> usize
-    requires { at + length (clauses_text (D.standing db.now)) < 2 ^ 32 }
-    ensures bytes { buffer.new ≡ sets buffer.old at (clauses_text (D.standing db.now)) }
-    ensures end { result ≡ at + length (clauses_text (D.standing db.now)) }
+// Puts the standing clauses, one a line.
+fn put_clauses<D: ClauseDatabase>(out: &mut Output, db: &D)
+    ensures { Puts (clauses_text (D.standing db.now)) out.old out.new }
 {
-    db.lawful();
-    let mut end = at;
-    let mut above = 0;
-    while let Some(number) = db.next(above) {
-        if let Some(clause) = db.clause(number) {
-            end = put_clause(buffer, end, &clause);
-        }
-        above = number.value;
+    for entry in standing(db) {
+        put_clause(out, &entry.clause);
     }
-    end
 }
 
 // Writes the formula from the buffer's start, as far as the buffer reaches, and answers the length of the whole text.
@@ -43,7 +34,8 @@ pub(crate) fn put_formula<D: ClauseDatabase>(db: &D, variables: u16, buffer: &mu
     ensures bytes { length (formula_text variables (D.standing db.now)) ≤ length buffer.old → buffer.new ≡ fronted (formula_text variables (D.standing db.now)) buffer.old }
     ensures end { result ≡ length (formula_text variables (D.standing db.now)) }
 {
-    db.lawful();
-    let end = put_header(buffer, variables, db.count());
-    put_clauses(db, buffer, end)
+    let mut out = Output::over(buffer);
+    put_header(&mut out, variables, db.count());
+    put_clauses(&mut out, db);
+    out.len()
 }

@@ -1,4 +1,4 @@
-ghost use Rattle.std.specs.Prelude.{◌≡◌, ◌≤◌, min, [], ◌∷◌, ◌++◌, length, None, ◌==◌};
+ghost use Rattle.std.specs.Prelude.{◌≡◌, min, [], ◌∷◌, ◌++◌, length, None, ◌==◌};
 ghost use Rattle.words.specs.Checks.{fault_of, unless};
 ghost use Rattle.words.specs.Meanings.{lits_of};
 ghost use Rattle.rules.specs.Restoring.{saved_literals, save_fault, restored};
@@ -7,7 +7,7 @@ ghost use Rattle.reconstruction.specs.Meanings.{saved, room_of};
 
 use crate::repair::repair_all;
 use crate::saved::{SavedEntry, SavedLiteral};
-use crate::saves::{ReconstructionStack, Used};
+use crate::saves::ReconstructionStack;
 use crate::stack::Stack;
 use words::{Clause, Literal, StackFault};
 
@@ -23,29 +23,20 @@ impl<'a> ReconstructionStack<'a> {
         }
     }
 
-    // How much is in use: no more than fits.
-    fn used(&self) -> Used
-        ensures counts { (result.entries ≡ length (saved self.now)) × (result.literals ≡ saved_literals (saved self.now)) }
-        ensures fit { (result.entries ≤ (room_of self.now).entries) × (result.literals ≤ (room_of self.now).literals) }
-    {
-        Used {
-            entries: self.entries.len(),
-            literals: self.literals.len(),
-        }
-    }
-
     // How many clauses are saved.
+    #[tactic(auto, using(crate::proofs::Shares::length_saved))]
     pub fn count(&self) -> usize
         ensures { result ≡ length (saved self.now) }
     {
-        self.used().entries
+        self.entries.len()
     }
 
     // How many literals they have together.
+    #[tactic(auto, using(crate::proofs::Shares::literals_saved))]
     pub fn literal_count(&self) -> usize
         ensures { result ≡ saved_literals (saved self.now) }
     {
-        self.used().literals
+        self.literals.len()
     }
 
     // Whether nothing is saved.
@@ -59,11 +50,10 @@ impl<'a> ReconstructionStack<'a> {
     pub fn fits(&self, entries: usize, literals: usize) -> Result<(), StackFault>
         ensures { fault_of result ≡ fit_fault (room_of self.now) (saved self.now) entries literals }
     {
-        let used = self.used();
-        if entries > self.entries.capacity() - used.entries {
+        if entries > self.entries.room() {
             return Err(StackFault::EntriesFull);
         }
-        if literals > self.literals.capacity() - used.literals {
+        if literals > self.literals.room() {
             return Err(StackFault::LiteralsFull);
         }
         Ok(())
@@ -76,8 +66,9 @@ impl<'a> ReconstructionStack<'a> {
         ensures room { room_of self.new ≡ room_of self.old }
     {
         self.literals.push_literals(clause.literals());
-        let _ = self.entries.push(SavedEntry {
+        self.entries.add(SavedEntry {
             pivot: pivot.value,
+            // no `try_from`: a clause has at most 64 literals, so its error could never come
             count: clause.len as u8,
         });
     }

@@ -7,13 +7,6 @@ use crate::stack::Stack;
 
 mod methods;
 
-// How many clauses are saved, and how many literals they have together.
-#[derive(Clone, Copy)]
-struct Used {
-    entries: usize,
-    literals: usize,
-}
-
 // The reconstruction stack: an entry for each saved clause, and the literals of all of them one after another.
 // The entries' weights add up to the count of literals.
 #[derive(Drop)]

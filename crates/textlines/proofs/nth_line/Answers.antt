@@ -1,24 +1,22 @@
-use Rattle.std.proofs.Common.{sym, ap, ◌∙◌, arith}
+use Rattle.std.proofs.Common.{◌≡◌, Some, sym, refl, ap, ◌∙◌, arith, rules, tests}
+use Rattle.std.specs.Option.{option_map}
 use Rattle.textlines.specs.Lines.{text_lines, nth_line}
-use Rattle.textlines.proofs.Lines.{no_line_zero, line_is_here, no_line_behind, line_is_behind, no_line_at_end}
+use Rattle.textlines.proofs.Lines.{no_line_zero}
+use Rattle.textlines.proofs.Cuts.{line_of, nth_cut, stripped_line}
 use Rattle.textlines.proofs.nth_line.Goals as goal
 
-pub returns-then-n-eq0 : goal.returns-then-n-eq0
-returns-then-n-eq0 c =
-    sym (ap (λ m. nth_line m (text_lines c.args.text.now)) c.if-n-eq0.true ∙ no_line_zero (text_lines c.args.text.now))
+pub returns-in_err-checked_sub : goal.returns-in_err-checked_sub
+returns-in_err-checked_sub c =
+    let zero : c.args.n ≡ 0 = omega (arith, c.in_err-checked_sub.ensures) in
+    ap (option_map (λ x. x.now)) c.from_residual.ensures ∙ sym (ap (λ n. nth_line n (text_lines c.args.text.now)) zero ∙ no_line_zero (text_lines c.args.text.now))
 
-pub returns-then-left-eq1 : goal.returns-then-left-eq1
-returns-then-left-eq1 c =
-    line_is_here c.args.text.now c.loop-at.at c.loop-at.left _ c.line_end.ensures.value c.loop-at-test.true c.if-left-eq1.true ∙ c.loop-at.invariant.0
-
-pub returns-then-end-text : goal.returns-then-end-text
-returns-then-end-text c =
-    no_line_behind c.args.text.now c.loop-at.at c.loop-at.left _ c.line_end.ensures.value c.if-left-eq1.false c.if-end-text.true ∙ c.loop-at.invariant.0
-
-pub loop-at-preserved : goal.loop-at-preserved
-loop-at-preserved c =
-    let e = line_is_behind c.args.text.now c.loop-at.at c.loop-at.left _ c.line_end.ensures.value c.if-left-eq1.false c.loop-at-test.true c.line_end.ensures.fits c.if-end-text.false in
-    (e ∙ c.loop-at.invariant.0, omega (arith, c.loop-at.invariant.1, c.if-left-eq1.false))
+pub returns-in_err-line : goal.returns-in_err-line
+returns-in_err-line c =
+    let line = nth_cut _ c.args.n _ _ _ c.nth.ensures.ran (omega (arith, c.in_ok-checked_sub.ensures)) c.args.text.now c.split_inclusive.ensures.rest c.split_inclusive.ensures.closure (λ a r q k. search (rules, tests)) in
+    ap (option_map (λ x. x.now)) c.from_residual-in_err-line.ensures ∙ sym (line ∙ ap (option_map (λ x. (line_of x.now).bytes)) c.in_err-line.was)
 
 pub returns : goal.returns
-returns c = no_line_at_end c.args.text.now c.loop-at.at c.loop-at.left c.loop-at-test.false ∙ c.loop-at.invariant.0
+returns c =
+    let line = nth_cut _ c.args.n _ _ _ c.nth.ensures.ran (omega (arith, c.in_ok-checked_sub.ensures)) c.args.text.now c.split_inclusive.ensures.rest c.split_inclusive.ensures.closure (λ a r q k. search (rules, tests)) in
+    let bytes = stripped_line c.in_ok-line.line.now _ c.in_ok-line.line c.strip_suffix.ensures.cases refl in
+    ap (λ x. Some x.now) c.unwrap_or.ensures ∙ ap Some bytes ∙ sym (line ∙ ap (option_map (λ x. (line_of x.now).bytes)) c.in_ok-line.was)

@@ -1,15 +1,21 @@
-use Rattle.std.proofs.Common.{◌≡◌, sym, ap, ◌∙◌, arith}
-use Rattle.arena.specs.Layout.{repacked_in}
-use Rattle.arena.proofs.Packs.{blank, repack_step, fits_step, repack_end}
+use Rattle.std.proofs.Common.{◌+◌, ◌≤◌, sym, refl, ◌∙◌, arith, rules}
+use Rattle.arena.proofs.Packs.{fits_now, repack_step, fits_step, repack_end}
 use Rattle.arena.proofs.packing.repack.Goals as goal
 
-pub loop-i-preserved : goal.loop-i-preserved
-loop-i-preserved c =
-    let s = repack_step c.loop-i.records c.loop-i.i c.args.end c.loop-i.at blank (omega arith) (omega arith) in
-    (s ∙ c.loop-i.invariant.0, fits_step c.loop-i.records c.loop-i.i c.args.end c.loop-i.at 16384 _ blank (omega arith) (omega arith) c.loop-i.invariant.1)
+pub loop-record-init : goal.loop-record-init
+loop-record-init c = (refl, c.requires)
+
+pub overflow_add-at : goal.overflow_add-at
+overflow_add-at c =
+    let f : c.loop-record.at + c.from-at.result ≤ 16384 = omega (arith, c.from-at.ensures, fits_now c.loop-record.record-items c.loop-record.record-index c.loop-record.at (omega arith) 16384 c.loop-record.invariant.1) in
+    search rules
+
+pub loop-record-preserved : goal.loop-record-preserved
+loop-record-preserved c =
+    let i = c.loop-record.invariant in (
+      repack_step c.loop-record.record-items c.loop-record.record-index c.loop-record.at (omega arith) c.from-at.result c.from-at.ensures ∙ i.0,
+      fits_step c.loop-record.record-items c.loop-record.record-index c.loop-record.at (omega arith) c.from-at.result 16384 c.from-at.ensures i.1,
+    )
 
 pub returns : goal.returns
-returns c =
-    let e : c.loop-i.i ≡ c.args.end = omega arith in
-    sym (repack_end c.loop-i.records c.loop-i.i c.loop-i.at) ∙
-    ap (λ n. repacked_in c.loop-i.records c.loop-i.i n c.loop-i.at) e ∙ c.loop-i.invariant.0
+returns c = sym (repack_end c.loop-record.record-items c.loop-record.record-index c.loop-record.at (omega arith)) ∙ c.loop-record.invariant.0

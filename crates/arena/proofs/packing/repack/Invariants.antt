@@ -1,9 +1,9 @@
-use Rattle.std.proofs.Common.{◌≡◌, ◌+◌, ◌≤◌}
-use Rattle.std.specs.List.{between}
-use Rattle.arena.specs.Layout.{total, repacked_in}
+use Rattle.std.proofs.Common.{◌≡◌, ◌+◌, ◌≤◌, ◌++◌, take, drop}
+use Rattle.arena.specs.Layout.{total, repacked}
 use Rattle.arena.proofs.packing.repack.Given as goal
 
-abbrev pub invariant-loop-i : goal.invariant-loop-i
-invariant-loop-i l =
-    (repacked_in l.records l.i l.end l.at ≡ repacked_in l.initial.records l.initial.i l.end l.initial.at)
-    × (l.at + total (between l.i l.end l.records) ≤ 16384)
+-- those so far are written, and those to come still fit
+abbrev pub invariant-loop-record : goal.invariant-loop-record
+invariant-loop-record l =
+    (take l.record-index l.record-items ++ repacked l.at (drop l.record-index l.record-items) ≡ repacked l.initial.at l.initial.record-items)
+    × (l.at + total (drop l.record-index l.record-items) ≤ 16384)

@@ -1,21 +1,19 @@
-use Rattle.std.proofs.Common.{◌≡◌, ◌-◌, true, leb, length, get_or, pos, nat_abs, sym, ap, ◌∙◌, arith, w16, SFits, rules}
-use Rattle.std.proofs.lemmas.List.{nil_from_length}
-use Rattle.std.proofs.lemmas.Int.{to_z-of_z}
-use Rattle.std.proofs.lemmas.Bool.{eq-eqb}
-use Rattle.words.specs.Clauses.{within, rising}
-use Rattle.bitmask.proofs.Telling.{within_last}
+use Rattle.std.proofs.Common.{◌≡◌, ℕ, leb, ◌&&◌, List, [], ◌∷◌, nat_abs, ℤ, refl, ap, ◌∙◌, rules, tests}
+use Rattle.std.specs.List.{list_all}
+use Rattle.std.proofs.lemmas.Iterator.Consumers.{YieldsList-from_first}
+use Rattle.std.proofs.lemmas.Iterator.Search.{all_from_yields_List}
+use Rattle.words.specs.Clauses.{within}
+use Rattle.words.specs.Meanings.{lits_of}
+use Rattle.words.specs.declared.literal.Literal.{Literal}
+use Rattle.words.specs.declared.clause_literals.ClauseLiterals.{ClauseLiterals}
 use Rattle.bitmask.proofs.slot.fits.Goals as goal
 
-pub returns-then-len-eq0 : goal.returns-then-len-eq0
-returns-then-len-eq0 c =
-    let e = nil_from_length c.literals-literals.result.now c.if-len-eq0.true in
-    eq-eqb _ 0 c.if-len-eq0.true ∙ sym (ap (within 64) (sym c.literals-literals.ensures ∙ e))
+-- no variable is beyond n where each literal passes
+all_within : (n : ℕ) (zs : List ℤ) → list_all (λ z. leb (nat_abs z) n) zs ≡ within n zs
+all_within n [] = refl
+all_within n (z ∷ zs) = ap (λ b. leb (nat_abs z) n && b) (all_within n zs)
 
-pub returns-else-len-eq0 : goal.returns-else-len-eq0
-returns-else-len-eq0 c =
-    let xs = c.literals-literals.result.now in
-    let f : SFits w16 (get_or xs (length xs - 1) (pos 0)) = search rules in
-    let q = to_z-of_z w16 (get_or xs (length xs - 1) (pos 0)) f in
-    let r : rising 512 0 xs ≡ true = ap (rising 512 0) c.literals-literals.ensures ∙ c.args.clause.now.rises in
-    let w = within_last 512 64 0 (length xs - 1) xs r (omega arith) in
-    ap (λ x. leb x 64) (c.unsigned_abs.ensures.value ∙ ap nat_abs q) ∙ sym w ∙ ap (within 64) c.literals-literals.ensures
+pub returns : goal.returns
+returns c =
+    let r = all_from_yields_List (λ z. leb (nat_abs z) 64) c.all.new.self _ _ c.all.ensures.ran (YieldsList-from_first (λ (l : Literal). l.value) (λ (s : ClauseLiterals). s.rest.now) _ c.into_iter.ensures.into_iter_gives) (λ x b q k. search (rules, tests)) in
+    r ∙ all_within 64 (lits_of c.args.clause.now)

@@ -1,14 +1,12 @@
-use Rattle.std.proofs.Common.{◌≡◌, ◌-◌, ◌^◌, ◌++◌}
+use Rattle.std.proofs.Common.{◌≡◌, ◌++◌}
 use Rattle.database.specs.Walks.{above}
 use Rattle.rules.specs.Lines.{eliminated}
 use Rattle.reconstruction.specs.Meanings.{saved, room_of}
-use Rattle.elimination.proofs.Found.{literal_of}
 use Rattle.elimination.proofs.eliminate.save_all.Given as goal
 
-abbrev pub invariant-loop-found : goal.invariant-loop-found
-invariant-loop-found g l =
-    (saved l.stack ++ eliminated (literal_of l.holding) (above l.at (g.D.ClauseDatabase.standing l.db)) ≡ saved l.initial.stack ++ eliminated (literal_of l.holding) (g.D.ClauseDatabase.standing l.db)) ×
+abbrev pub invariant-loop-entry : goal.invariant-loop-entry
+invariant-loop-entry g l =
+    (goal.iterator-loop-entry g).can_next l.entry-iterator × (goal.iterator-loop-entry g).is_finite l.entry-iterator ×
+    (saved l.stack ++ eliminated l.pivot.value (above l.entry-iterator.above (g.D.ClauseDatabase.standing l.entry-iterator.db.now)) ≡
+    saved l.initial.stack ++ eliminated l.pivot.value (g.D.ClauseDatabase.standing l.db)) ×
     (room_of l.stack ≡ room_of l.initial.stack)
-
-abbrev pub decreases-loop-found : goal.decreases-loop-found
-decreases-loop-found g l = 2 ^ 32 - l.at

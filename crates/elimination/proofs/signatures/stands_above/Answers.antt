@@ -1,17 +1,18 @@
-use Rattle.std.proofs.Common.{sym, ◌∙◌, rules}
+use Rattle.std.proofs.lemmas.Iterator.Consumers.{YieldsList-from_first}
+use Rattle.std.proofs.lemmas.Iterator.Search.{any_from_yields_List}
+use borrow.Author.Tests.{tests}
+use Rattle.std.proofs.Common.{◌∙◌, rules}
+use Rattle.words.specs.Clauses.{equal}
 use Rattle.words.specs.Meanings.{lits_of}
-use Rattle.elimination.proofs.Found.{step_rises}
-use Rattle.elimination.proofs.Signed.{walk_hit, walk_miss, walk_done}
+use Rattle.words.specs.Standing.{Entry}
+use Rattle.database.specs.Walks.{above, entry_of}
+use Rattle.elimination.proofs.Signed.{equal_told, equal_among}
 use Rattle.elimination.proofs.signatures.stands_above.Goals as goal
 
-pub returns-then-equal_at : goal.returns-then-equal_at
-returns-then-equal_at g c = walk_hit _ _ _ c.lawful.ensures.in_order c.loop-number.at c.in-Some.number.value (sym c.in-Some.ensures) (lits_of c.args.clause.now) _ (sym c.equal_at.ensures ∙ c.if-equal_at.true) c.loop-number.invariant
-
-pub loop-number-smaller : goal.loop-number-smaller
-loop-number-smaller g c = let r = step_rises _ _ _ c.lawful.ensures.in_order c.loop-number.at c.in-Some.number.value (sym c.in-Some.ensures) in search rules
-
-pub loop-number-preserved : goal.loop-number-preserved
-loop-number-preserved g c = walk_miss _ _ _ c.lawful.ensures.in_order c.loop-number.at c.in-Some.number.value (sym c.in-Some.ensures) (lits_of c.args.clause.now) _ (sym c.equal_at.ensures ∙ c.if-equal_at.false) c.loop-number.invariant
-
 pub returns : goal.returns
-returns g c = walk_done (lits_of c.args.clause.now) c.loop-number.at _ _ (sym c.in_default.ensures) c.loop-number.invariant
+returns g c =
+    let z = lits_of c.args.clause.now in
+    let s = above c.args.after (g.D.ClauseDatabase.standing c.args.db.now) in
+    any_from_yields_List (λ (e : Entry). equal e.lits z) c.any.new.self _ c.any.result c.any.ensures.ran
+    (YieldsList-from_first entry_of (λ w. above w.above (g.D.ClauseDatabase.standing w.db.now)) s c.standing_above.ensures)
+    (λ x b q k. search (rules, tests, equal_told)) ∙ equal_among z s

@@ -1,19 +1,17 @@
-use Rattle.std.proofs.Common.{get_or, pos, nat_abs, ap, ◌∙◌, w16, SFits, rules}
-use Rattle.std.proofs.lemmas.Int.{to_z-of_z}
-use Rattle.loading.proofs.Beyond.{beyond_hit, beyond_miss, beyond_end}
+use Rattle.std.proofs.Common.{◌≡◌, ◌+◌, ◌∙◌, not, ap, rules}
+use Rattle.std.proofs.lemmas.Iterator.{YieldsList-from_slice}
+use Rattle.std.proofs.lemmas.Iterator.Adapters.{position_from-zero}
+use Rattle.std.proofs.lemmas.Iterator.Search.{position_from_yields_List}
+use Rattle.std.specs.Option.{option_map}
+use borrow.Author.Tests.{tests}
+use Rattle.words.specs.Literals.{literal_ok}
+use Rattle.loading.proofs.Beyond.{beyond_position}
 use Rattle.loading.proofs.lists.first_beyond.Goals as goal
 
-pub returns-then-v-eq0 : goal.returns-then-v-eq0
-returns-then-v-eq0 c =
-    let x = get_or c.args.list.now c.loop-i.i (pos 0) in
-    let f : SFits w16 x = search rules in
-    beyond_hit c.args.variables c.args.list.now c.loop-i.i c.loop-i.invariant _ (c.unsigned_abs-v.ensures.value ∙ ap nat_abs (to_z-of_z w16 x f)) c.loop-i-test.true c.then-v-eq0.either
-
-pub loop-i-preserved : goal.loop-i-preserved
-loop-i-preserved c =
-    let x = get_or c.args.list.now c.loop-i.i (pos 0) in
-    let f : SFits w16 x = search rules in
-    beyond_miss c.args.variables c.args.list.now c.loop-i.i c.loop-i.invariant _ (c.unsigned_abs-v.ensures.value ∙ ap nat_abs (to_z-of_z w16 x f)) c.loop-i-test.true c.if-v-eq0.false c.if-v-variables.false
-
 pub returns : goal.returns
-returns c = beyond_end c.args.variables c.args.list.now c.loop-i.i c.loop-i.invariant c.loop-i-test.false
+returns c =
+    let n = c.args.variables in
+    let zs = c.args.list.now in
+    let m : c.map.result ≡ option_map (λ k. k + 1) c.position.result = search rules in
+    let p = position_from_yields_List (λ z. not (literal_ok n z)) _ _ c.position.result c.position.ensures.ran (YieldsList-from_slice zs cc) (λ x b q k. search (rules, tests)) in
+    m ∙ ap (option_map (λ k. k + 1)) (p ∙ position_from-zero (λ z. not (literal_ok n z)) zs) ∙ beyond_position n zs

@@ -1,10 +1,7 @@
-use Rattle.std.proofs.Common.{◌≡◌, ◌+◌, ◌*◌, drop}
-use lib.Seq.{sets}
+use Rattle.std.proofs.Common.{drop}
+use Rattle.output.proofs.Putting.{PutsSo}
 use Rattle.positions.specs.Values.{text_behind}
 use Rattle.positions.proofs.write.put_behind.Given as goal
 
--- what is still to come completes the text
 abbrev pub invariant-loop-value : goal.invariant-loop-value
-invariant-loop-value l =
-    (sets l.buffer l.end (text_behind (drop l.value-index l.values)) ≡ sets l.initial.buffer l.initial.end (text_behind l.values)) ×
-    (l.end ≡ l.initial.end + 2 * l.value-index)
+invariant-loop-value l = PutsSo text_behind l.values (drop l.value-index l.values) l.initial.out l.out

@@ -1,31 +1,19 @@
-use Rattle.std.proofs.Common.{arith}
-use Rattle.reconstruction.proofs.Refused.{rises, stands_there, clause_start, clause_hit, clause_miss, clause_end}
+use Rattle.std.proofs.Common.{◌≡◌, not, ◌∙◌, ap, rules}
+use Rattle.std.proofs.lemmas.Iterator.Consumers.{YieldsList-from_first}
+use Rattle.std.proofs.lemmas.Iterator.Search.{find_from_yields_List}
+use Rattle.std.specs.Option.{option_map}
+use borrow.Author.Tests.{tests}
+use Rattle.words.specs.Assignments.{met}
+use Rattle.words.specs.Standing.{Entry}
+use Rattle.database.specs.Walks.{above, entry_of}
+use Rattle.reconstruction.proofs.Refused.{unmet_found}
 use Rattle.reconstruction.proofs.restoring.first_unmet.Goals as goal
 
-pub loop-number-init : goal.loop-number-init
-loop-number-init g c = clause_start _ (g.D.ClauseDatabase.standing c.args.db.now) c.args.assignment.now c.lawful.ensures
-
-pub returns-then-not-is_met : goal.returns-then-not-is_met
-returns-then-not-is_met g c =
-    clause_hit _ (g.D.ClauseDatabase.standing c.args.db.now) c.loop-number.at c.in-Some.number.value c.lawful.ensures c.in-Some.ensures
-    c.args.assignment.now _ c.loop-number.invariant _ _ c.in-Some-clause.ensures c.literals.ensures _ c.is_met.ensures c.if-not-is_met.true
-
-pub loop-number-smaller-else-not-is_met : goal.loop-number-smaller-else-not-is_met
-loop-number-smaller-else-not-is_met g c =
-    omega (arith, rises _ (g.D.ClauseDatabase.standing c.args.db.now) c.loop-number.at c.in-Some.number.value c.lawful.ensures c.in-Some.ensures)
-
-pub loop-number-preserved-else-not-is_met : goal.loop-number-preserved-else-not-is_met
-loop-number-preserved-else-not-is_met g c =
-    clause_miss _ (g.D.ClauseDatabase.standing c.args.db.now) c.loop-number.at c.in-Some.number.value c.lawful.ensures c.in-Some.ensures
-    c.args.assignment.now _ c.loop-number.invariant _ _ c.in-Some-clause.ensures c.literals.ensures _ c.is_met.ensures c.if-not-is_met.false
-
-pub loop-number-smaller : goal.loop-number-smaller
-loop-number-smaller g c =
-    omega (arith, rises _ (g.D.ClauseDatabase.standing c.args.db.now) c.loop-number.at c.in-Some.number.value c.lawful.ensures c.in-Some.ensures)
-
-pub loop-number-preserved : goal.loop-number-preserved
-loop-number-preserved g c =
-    absurd (stands_there _ (g.D.ClauseDatabase.standing c.args.db.now) c.loop-number.at c.in-Some.number.value c.lawful.ensures c.in-Some.ensures c.in_default-clause.ensures)
-
 pub returns : goal.returns
-returns g c = clause_end (g.D.ClauseDatabase.standing c.args.db.now) c.loop-number.at c.args.assignment.now _ c.in_default.ensures c.loop-number.invariant
+returns g c =
+    let a = c.args.assignment.now in
+    let s = g.D.ClauseDatabase.standing c.args.db.now in
+    let f = find_from_yields_List (λ (e : Entry). not (met a e.lits)) c.find.new.self _ c.find.result c.find.ensures.ran
+    (YieldsList-from_first entry_of (λ w. above w.above (g.D.ClauseDatabase.standing w.db.now)) s c.standing.ensures.all) (λ x b q k. search (rules, tests)) in
+    let m : c.map.result ≡ option_map (λ (e : Entry). e.number) (option_map entry_of c.find.result) = search rules in
+    m ∙ ap (option_map (λ (e : Entry). e.number)) f ∙ unmet_found a s

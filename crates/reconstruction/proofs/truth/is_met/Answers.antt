@@ -1,20 +1,13 @@
-use Rattle.std.proofs.Common.{◌∙◌, arith, w16, SFits, rules}
-use Rattle.std.proofs.lemmas.Int.{to_z-of_z}
-use Rattle.reconstruction.proofs.Truths.{told, met_hit, met_miss, met_end}
+use Rattle.std.proofs.Common.{◌∙◌, rules}
+use borrow.Author.Tests.{tests}
+use Rattle.std.proofs.lemmas.Iterator.{YieldsList-from_slice}
+use Rattle.std.proofs.lemmas.Iterator.Search.{any_from_yields_List}
+use Rattle.words.specs.Assignments.{holds}
+use Rattle.reconstruction.proofs.Truths.{met_any}
 use Rattle.reconstruction.proofs.truth.is_met.Goals as goal
-
-pub returns-then-is_true : goal.returns-then-is_true
-returns-then-is_true g c =
-    let f : SFits w16 c.number.result = search rules in
-    met_hit g.T.Signed.number c.args.assignment.now c.args.literals.now c.loop-literal.literal-index _ c.loop-literal.invariant c.literal-item.result (omega arith) c.literal-item.is
-    (told c.args.assignment.now _ _ _ _ c.is_true.ensures (to_z-of_z w16 _ f ∙ c.number.ensures) c.if-is_true.true)
-
-pub loop-literal-preserved : goal.loop-literal-preserved
-loop-literal-preserved g c =
-    let f : SFits w16 c.number.result = search rules in
-    met_miss g.T.Signed.number c.args.assignment.now c.args.literals.now c.loop-literal.literal-index _ c.loop-literal.invariant c.literal-item.result (omega arith) c.literal-item.is
-    (told c.args.assignment.now _ _ _ _ c.is_true.ensures (to_z-of_z w16 _ f ∙ c.number.ensures) c.if-is_true.false)
 
 pub returns : goal.returns
 returns g c =
-    met_end g.T.Signed.number c.args.assignment.now c.args.literals.now c.loop-literal.literal-index _ c.loop-literal.invariant (omega arith)
+    let number = g.T.Signed.number in
+    any_from_yields_List (λ x. holds c.args.assignment.now (number x)) _ _ _ c.any.ensures.ran (YieldsList-from_slice c.args.literals.now cc) (λ x b q k. search (rules, tests)) ∙
+    met_any number c.args.assignment.now c.args.literals.now

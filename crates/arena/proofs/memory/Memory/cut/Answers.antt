@@ -1,38 +1,39 @@
-use Rattle.std.proofs.Common.{refl, ◌∙◌, arith}
-use Rattle.arena.proofs.Changes.{row_inside, cut_fits, cut_done, same_limits}
+use Rattle.std.proofs.Common.{◌+◌, ◌-◌, ◌≤◌, length, get_or, take, drop, refl, ◌∙◌, arith}
+use Rattle.arena.specs.Layout.{total}
+use Rattle.arena.proofs.Packs.{blank}
+use Rattle.arena.proofs.Changes.{row_inside, cut_fits, cut_done, written_length, same_limits}
 use Rattle.arena.proofs.memory.Memory.cut.Goals as goal
 
 pub cut-requires-2 : goal.cut-requires-2
 cut-requires-2 c =
     let m = c.args.self.now in
-    let l = c.requires.laid in
-    record { within = row_inside m l c.args.place c.requires.within; room = l.room }
+    record { within = omega (arith, c.from.ensures, c.from-len.ensures, row_inside m c.args.place c.requires.within); room = m.room }
 
 pub repack-requires : goal.repack-requires
 repack-requires c =
     let m = c.args.self.now in
-    let l = c.requires.laid in
-    let f = cut_fits m l c.args.place c.requires.within _ c.cut.ensures in
-    record { order = omega (arith, c.requires.within); within = omega (arith, c.cut.auto.s, l.few); fits = omega (arith, l.below) }
+    let f : (get_or m.records.now c.args.place blank).start + total (take (m.count - 1 - c.args.place) (drop c.args.place c.cut.new.s)) ≤ m.used = cut_fits m c.args.place c.requires.within _ c.cut.ensures in
+    omega (arith, m.below)
 
-pub overflow_sub-self-2 : goal.overflow_sub-self-2
-overflow_sub-self-2 c =
+pub overflow_sub-used : goal.overflow_sub-used
+overflow_sub-used c =
     let m = c.args.self.now in
-    let l = c.requires.laid in
-    omega (arith, row_inside m l c.args.place c.requires.within)
+    omega (arith, c.from-len.ensures, row_inside m c.args.place c.requires.within)
+
+pub invariant_of-self : goal.invariant_of-self
+invariant_of-self c =
+    let m = c.args.self.now in
+    let p = cut_done m c.args.place c.requires.within c.cut.new.s _ c.cut-2.new.s c.from.result c.from-len.result c.from.ensures c.from-len.ensures c.cut.ensures c.cut.auto.s c.repack.ensures c.cut-2.ensures in
+    let few : m.count - 1 ≤ length c.cut.new.s = omega (arith, c.cut.auto.s, m.few) in
+    let lr = written_length c.cut.new.s _ c.args.place (m.count - 1) _ (omega (arith, c.requires.within)) few c.repack.ensures ∙ c.cut.auto.s in
+    let ll = c.cut-2.auto.s in
+    record { few = omega (arith, lr, m.few); room = omega (arith, ll, m.room); below = omega (arith, m.below); sum = p.sum; packs = p.packs }
 
 pub returns : goal.returns
 returns c =
     let m = c.args.self.now in
-    let l = c.requires.laid in
-    let p = cut_done m l c.args.place c.requires.within c.cut.new.s _ c.cut-2.new.s
-    c.cut.auto.s c.cut.ensures c.repack.ensures c.cut-2.ensures in
-    let lr = c.repack.auto.records ∙ c.cut.auto.s in
+    let p = cut_done m c.args.place c.requires.within c.cut.new.s _ c.cut-2.new.s c.from.result c.from-len.result c.from.ensures c.from-len.ensures c.cut.ensures c.cut.auto.s c.repack.ensures c.cut-2.ensures in
+    let few : m.count - 1 ≤ length c.cut.new.s = omega (arith, c.cut.auto.s, m.few) in
+    let lr = written_length c.cut.new.s _ c.args.place (m.count - 1) _ (omega (arith, c.requires.within)) few c.repack.ensures ∙ c.cut.auto.s in
     let ll = c.cut-2.auto.s in
-    record {
-      laid = record { few = omega (arith, lr, l.few); room = omega (arith, ll, l.room); below = omega (arith, l.below); sum = p.sum; packs = p.packs };
-      means = p.means;
-      limits = same_limits _ _ _ _ lr ll;
-      literals = refl;
-      records = refl;
-    }
+    record { means = p.means; limits = same_limits _ _ _ _ lr ll; literals = refl; records = refl }

@@ -7,11 +7,11 @@ use Rattle.arena.proofs.memory.Memory.start_at.Goals as goal
 pub returns-then-place-self : goal.returns-then-place-self
 returns-then-place-self c =
     let m = c.args.self.now in
-    start_is m c.requires.laid c.args.place (omega arith)
+    start_is m c.args.place (omega arith)
 
 pub returns-else-place-self : goal.returns-else-place-self
 returns-else-place-self c =
     let m = c.args.self.now in
     let rs = take m.count m.records.now in
-    let l = length-take-le m.count m.records.now c.requires.laid.few in
-    sym c.requires.laid.sum ∙ ap total (sym (take_all c.args.place rs (omega arith)))
+    let l = length-take-le m.count m.records.now m.few in
+    sym m.sum ∙ ap total (sym (take_all c.args.place rs (omega arith)))

@@ -1,38 +1,40 @@
-use Rattle.std.proofs.Common.{get_or, pos, nat_abs, ap, ◌∙◌, subst, arith, w16, SFits, rules}
-use Rattle.std.proofs.lemmas.List.{take_all}
-use Rattle.std.proofs.lemmas.Int.{to_z-of_z}
-use Rattle.words.specs.Clauses.{rising, within}
+use Rattle.std.proofs.Common.{◌≡◌, ◌≤◌, true, [], ◌∷◌, List, Option, Some, unsigned_abs, sym, refl, ap, ◌∙◌, arith, rules}
+use Rattle.std.proofs.lemmas.Iterator.Consumers.{YieldsList-from_first}
+use Rattle.std.proofs.lemmas.Fn.{serves_by, fold_over}
+use Rattle.std.proofs.lemmas.Bool.Decides.{nat_tests}
+use Rattle.std.specs.Iterator.{Yields, YieldsFirstBy}
+use Rattle.words.specs.Clauses.{within}
+use Rattle.words.specs.Meanings.{lits_of}
+use Rattle.words.specs.declared.literal.Literal.{Literal}
+use Rattle.words.specs.declared.clause_literals.ClauseLiterals.{ClauseLiterals}
 use Rattle.bitmask.specs.Masks.{Tells}
+use Rattle.bitmask.specs.declared.slot.Slot.{Slot}
 use Rattle.bitmask.proofs.Decoding.{decoded_tells}
-use Rattle.bitmask.proofs.Telling.{literal_bounds, tells_more, entry_is}
+use Rattle.bitmask.proofs.Telling.{tells_none, entry_is}
 use Rattle.bitmask.proofs.slot.Slot.of.Goals as goal
 
-pub with-slot-requires : goal.with-slot-requires
-with-slot-requires c =
-    let xs = c.literals-literals.result.now in
-    let i = c.loop-literal.literal-index in
-    let e = c.literals-literals.ensures in
-    let f : SFits w16 (get_or xs i (pos 0)) = search rules in
-    let q = ap nat_abs (to_z-of_z w16 (get_or xs i (pos 0)) f) in
-    let b = literal_bounds 512 64 0 i xs (ap (rising 512 0) e ∙ c.args.clause.now.rises) (ap (within 64) e ∙ c.requires) c.loop-literal-test.true in
-    record { low = omega arith; high = omega arith }
+-- what one step of going through the literals does
+abbrev steps : ClauseLiterals → Option Literal → ClauseLiterals → Type 0
+steps = YieldsFirstBy (λ (l : Literal). l.value) (λ (s : ClauseLiterals). s.rest.now)
 
-pub loop-literal-preserved : goal.loop-literal-preserved
-loop-literal-preserved c =
-    let xs = c.literals-literals.result.now in
-    let i = c.loop-literal.literal-index in
-    let f : SFits w16 (get_or xs i (pos 0)) = search rules in
-    let q = to_z-of_z w16 (get_or xs i (pos 0)) f in (
-      c.with-slot.ensures.number ∙ c.loop-literal.invariant.0,
-      tells_more _ _ _ _ i xs _ c.loop-literal-test.true q c.with-slot.ensures.told c.loop-literal.invariant.1,
-    )
+-- each literal that comes has a bit
+bounded : (xs : List Literal) (s t : ClauseLiterals) (x : Literal) (u : ClauseLiterals) → within 64 s.rest.now ≡ true → Yields steps s xs t → steps t (Some x) u → unsigned_abs x.value ≤ 64
+bounded [] s t x u w y k =
+    let v : within 64 (x.value ∷ u.rest.now) ≡ true = ap (within 64) (sym (ap (λ (s : ClauseLiterals). s.rest.now) y ∙ k)) ∙ w in
+    grind (arith, nat_tests)
+bounded (z ∷ xs) s t x u w y k =
+    let v : within 64 (z.value ∷ y.0.rest.now) ≡ true = ap (within 64) (sym y.1) ∙ w in
+    let r : within 64 y.0.rest.now ≡ true = grind (arith, nat_tests) in
+    bounded xs y.0 t x u r y.2 k
+
+pub fold-requires-clause-callable : goal.fold-requires-clause-callable
+fold-requires-clause-callable c =
+    let e = c.into_iter.ensures.into_iter_gives in
+    let w : within 64 c.into_iter.result.rest.now ≡ true = ap (within 64) e ∙ c.requires in
+    serves_by _ (λ xs q. Unit {0}) (λ xs q x v j k. tt) _ _ _ _ tt (λ xs t q x u y k j. bounded xs _ t x u w y k)
 
 pub returns : goal.returns
 returns c =
-    let s = c.loop-literal.slot in
-    let xs = c.literals-literals.result.now in
-    let e = c.literals-literals.ensures in
-    let a = take_all c.loop-literal.literal-index xs c.loop-literal-test.false in
-    let t = subst (Tells s.plus s.minus) a c.loop-literal.invariant.1 in
-    let d = decoded_tells s.plus s.minus xs (ap (rising 512 0) e ∙ c.args.clause.now.rises) (ap (within 64) e ∙ c.requires) t in
-    entry_is s c.args.number _ c.loop-literal.invariant.0 (d ∙ e)
+    let k = c.args.clause.now in
+    let told = fold_over steps (λ (l : Literal). l.value) _ (λ ys (a : Slot). (a.number ≡ c.args.number) × Tells a.plus a.minus ys) _ (λ ys a x b f j r. ((search rules, let q = r.met in let t = j.1 in search rules), search rules)) _ (lits_of k) _ _ (YieldsList-from_first (λ (l : Literal). l.value) (λ (s : ClauseLiterals). s.rest.now) _ c.into_iter.ensures.into_iter_gives).runs (refl, tells_none) c.fold.ensures.ran in
+    entry_is c.fold.result c.args.number _ told.0 (decoded_tells c.fold.result.plus c.fold.result.minus (lits_of k) k.rises c.requires told.1)

@@ -1,44 +1,44 @@
-use Rattle.std.proofs.Common.{◌≡◌, ℕ, ◌+◌, ◌<◌, List, length, set, None, sym, arith, rules}
-use Rattle.std.proofs.lemmas.List.{length-take-le}
-use Rattle.words.specs.Blocks.{exchanged}
-use Rattle.words.specs.Standing.{inserted, put_fault}
+use Rattle.std.proofs.Common.{◌≡◌, ℕ, ◌≤◌, true, List, length, Err, refl, ap, sym, ◌∙◌, arith, rules}
+use Rattle.std.specs.List.{insert}
+use Rattle.words.specs.Clauses.{canonical}
+use Rattle.words.specs.Meanings.{lits_of}
+use Rattle.words.specs.Standing.{Entry, ordered, inserted}
 use Rattle.words.specs.declared.clause.Clause.{Clause}
 use Rattle.words.specs.declared.number.ClauseNumber.{ClauseNumber}
-use Rattle.bitmask.specs.Meanings.{mask_limits, standing_in}
-use Rattle.bitmask.specs.Slots.{entry, first_above}
+use Rattle.database.specs.Places.{place_of}
+use Rattle.database.proofs.Bounds.{ordered_inserted}
+use Rattle.database.proofs.Places.{missing}
+use Rattle.bitmask.specs.Meanings.{standing_in}
+use Rattle.bitmask.specs.Slots.{entry, entries}
 use Rattle.bitmask.specs.declared.slot.Slot.{Slot}
 use Rattle.bitmask.specs.declared.table.Bitmask.{Bitmask}
-use Rattle.bitmask.proofs.Changes.{Keeps, puts}
-use Rattle.bitmask.proofs.Faults.{fresh, clauses_fit}
-use Rattle.bitmask.proofs.Ranks.{place_within}
-use Rattle.bitmask.proofs.Tables.{put_entry, clause_width}
+use Rattle.bitmask.proofs.Decoding.{canonical_decoded}
+use Rattle.bitmask.proofs.Tables.{as_many, entries_insert, put_entry, number_right}
 use Rattle.bitmask.proofs.table.Bitmask.insert.Goals as goal
 
--- where nothing refuses the clause, a slot is free
-room : (b : Bitmask) (k : ClauseNumber) (c : Clause) → put_fault mask_limits (standing_in b) (put_entry k c) ≡ None → b.count < 256
-room b k c p = omega (arith, clauses_fit mask_limits (standing_in b) (put_entry k c) p (clause_width c), b.counted)
+-- what the slots mean after
+after : (b : Bitmask) (k : ClauseNumber) (c : Clause) (x : Slot) (i : ℕ) (ss : List Slot) → entry x ≡ put_entry k c → Err i ≡ place_of k.value (standing_in b) →
+    ss ≡ insert b.slots.items i x → entries ss ≡ inserted (put_entry k c) (standing_in b)
+after b k c x i ss e p q =
+    ap entries q ∙ entries_insert b.slots.items i x ∙ ap (insert (standing_in b) i) e ∙ sym ((missing 64 64 0 k.value i (standing_in b) b.kept p).put (put_entry k c) refl)
 
--- what the slots hold after
-after : (b : Bitmask) (k : ClauseNumber) (c : Clause) (x : Slot) (i : ℕ) (ss : List Slot) → put_fault mask_limits (standing_in b) (put_entry k c) ≡ None →
-    length b.slots ≡ 256 → length c.lits ≡ 64 → entry x ≡ put_entry k c → i ≡ first_above k.value (standing_in b) →
-    ss ≡ exchanged (set b.slots b.count x) i b.count (b.count + 1) → Keeps ss (b.count + 1) (b.total + c.len) (inserted (put_entry k c) (standing_in b))
-after b k c x i ss p nb nc ex ei es =
-    let r = room b k c p in
-    let w = place_within k.value (standing_in b) in
-    puts b x (put_entry k c) i c.len ss ex ei (omega (arith, b.counted)) (omega arith) k.low k.high (fresh mask_limits (standing_in b) (put_entry k c) p)
-    (sym (length-take-le c.len c.lits (omega (arith, c.few)))) es
+pub insert-requires : goal.insert-requires
+insert-requires c =
+    let s = c.args.self.now in
+    let m : c.args.place ≤ length s.slots.items = omega (arith, (missing 64 64 0 c.args.number.value _ (standing_in s) s.kept c.requires.here).inside, as_many s.slots.items) in
+    let r = c.requires.room in
+    search rules
 
 pub invariant_of-self : goal.invariant_of-self
 invariant_of-self c =
     let s = c.args.self.now in
-    let nb : length s.slots ≡ 256 = search rules in
-    let nc : length c.args.clause.now.lits ≡ 64 = search rules in
-    let a = after s c.args.number c.args.clause.now c.of.result c.place_above-at.result _ c.requires nb nc c.of.ensures c.place_above-at.ensures c.exchange.ensures in
-    record { few = omega (arith, room s c.args.number c.args.clause.now c.requires); counted = a.counted; kept = a.kept; summed = a.summed }
+    let k = c.args.number in
+    let e = after s k c.args.clause.now c.of.result c.args.place c.insert.new.self.items c.of.ensures c.requires.here c.insert.ensures.items in
+    let free = (missing 64 64 0 k.value _ (standing_in s) s.kept c.requires.here).absent in
+    let right : canonical 64 64 (lits_of c.args.clause.now) ≡ true = ap (λ (z : Entry). canonical 64 64 z.lits) (sym c.of.ensures) ∙ canonical_decoded c.of.result.plus c.of.result.minus in
+    let o = ordered_inserted 64 64 0 (put_entry k c.args.clause.now) (standing_in s) s.kept k.low (number_right k) right free in
+    record { few = omega (arith, c.insert.ensures.len, c.requires.room); kept = ap (ordered 64 64 0) e ∙ o }
 
 pub returns : goal.returns
 returns c =
-    let s = c.args.self.now in
-    let nb : length s.slots ≡ 256 = search rules in
-    let nc : length c.args.clause.now.lits ≡ 64 = search rules in
-    (after s c.args.number c.args.clause.now c.of.result c.place_above-at.result _ c.requires nb nc c.of.ensures c.place_above-at.ensures c.exchange.ensures).means
+    after c.args.self.now c.args.number c.args.clause.now c.of.result c.args.place c.insert.new.self.items c.of.ensures c.requires.here c.insert.ensures.items

@@ -1,15 +1,18 @@
-use Rattle.std.proofs.Common.{arith}
-use Rattle.bitmask.proofs.Tables.{place_some, place_none}
+use Rattle.std.proofs.Common.{◌≡◌, map, ap, ◌∙◌, rules}
+use Rattle.std.proofs.lemmas.List.Sorted.{answers_always}
+use Rattle.bitmask.specs.Meanings.{standing_in}
+use Rattle.database.specs.Places.{numbers}
+use Rattle.database.proofs.Places.{search_is, searched}
+use Rattle.bitmask.proofs.Tables.{same_numbers}
 use Rattle.bitmask.proofs.table.Bitmask.place.Goals as goal
-use Rattle.bitmask.proofs.table.Bitmask.place.Goals.{else-at-self-via-then-at-self+else-self-at, else-at-self-via-else-at-self}
 
-pub returns-then-self-at : goal.returns-then-self-at
-returns-then-self-at c =
+-- the closure gives a slot's number
+pub returns : goal.returns
+returns c =
     let s = c.args.self.now in
-    place_some s c.args.number.value c.place_above-at.result c.args.number.low c.place_above-at.ensures c.if-at-self.true c.if-self-at.true
-
-pub returns-else-at-self : goal.returns-else-at-self
-returns-else-at-self c =
-    let s = c.args.self.now in
-    place_none s c.args.number.value c.place_above-at.result c.args.number.low c.place_above-at.ensures
-    (λ h q. elim c.else-at-self.branch [ else-at-self-via-then-at-self+else-self-at w ↦ w.if-self-at.false q | else-at-self-via-else-at-self w ↦ omega (arith, w.if-at-self.false) ])
+    let f = c.binary_search_by_key.ensures in
+    let xs = c.as_slice-slots.result.now in
+    let same : map (λ x. x.number) xs ≡ numbers (standing_in s) = ap (map (λ x. x.number)) c.as_slice-slots.ensures.value ∙ same_numbers s.slots.items in
+    let p = search_is (λ x. x.number) 64 64 xs (standing_in s) same s.kept c.args.number.value c.binary_search_by_key.result f.bound (f.position (λ x. x.number) (answers_always _ _ _ (λ f a r g called. search rules))) in
+    let k = searched 64 64 0 c.args.number.value (standing_in s) _ s.kept p in
+    record { place = p; within = k.within; known = k.known; rest = k.rest }

@@ -1,19 +1,17 @@
-use Rattle.std.proofs.Common.{◌<◌, sym, refl, ◌∙◌, arith, rules}
-use Rattle.std.proofs.lemmas.List.{length-set}
-use Rattle.database.proofs.Walks.{above_start}
-use Rattle.elimination.proofs.Found.{step_rises}
-use Rattle.elimination.proofs.Signed.{table_step}
+use Rattle.std.proofs.Common.{◌++◌, [], ◌∷◌, ap, ◌∙◌, rules}
+use Rattle.database.specs.Walks.{entry_of}
+use Rattle.elimination.proofs.Signed.{table_start, table_step}
 use Rattle.elimination.proofs.signatures.SignatureTable.new.Goals as goal
 
-pub loop-number-init : goal.loop-number-init
-loop-number-init g c = (refl, omega arith, omega arith, refl, above_start _ _ _ c.lawful.ensures.in_order)
+pub loop-entry-init : goal.loop-entry-init
+loop-entry-init g c =
+    let t = table_start _ _ _ _ c.new-records.result.items (g.met.D.ClauseDatabase.lawful c.args.db.now).in_order c.new-records.ensures c.standing.ensures.all in
+    search rules
 
-pub loop-number-smaller : goal.loop-number-smaller
-loop-number-smaller g c = let r = step_rises _ _ _ c.lawful.ensures.in_order c.loop-number.last c.in-Some.number.value (sym c.in-Some.ensures) in search rules
-
-pub loop-number-preserved : goal.loop-number-preserved
-loop-number-preserved g c =
-    let i = c.loop-number.invariant in
-    let f : c.loop-number.len < 1024 = omega arith in
-    let t = table_step _ _ _ c.lawful.ensures.in_order c.loop-number.last c.in-Some.number.value (sym c.in-Some.ensures) c.loop-number.records c.loop-number.len (omega arith) i.3 i.4 _ c.signed_at.ensures in
-    (length-set _ _ _ ∙ i.0, omega arith, t.0, t.1, t.2)
+pub loop-entry-preserved : goal.loop-entry-preserved
+loop-entry-preserved g c =
+    let r = ap (λ (k : _). c.loop-entry.records.items ++ record { number = c.in-Some.entry.number.value; signature = k } ∷ []) c.signature.ensures in
+    let t =
+    table_step _ _ _ _ _ c.loop-entry.records.items _ c.loop-entry.last (entry_of c.in-Some.entry) (g.met.D.ClauseDatabase.lawful c.args.db.now).in_order c.loop-entry.invariant.2 c.loop-entry.invariant.3
+    c.in-Some.ensures.steps.0 (c.push.ensures.items ∙ r) in
+    search rules

@@ -1,13 +1,11 @@
-use Rattle.std.proofs.Common.{◌≡◌, ◌-◌, ◌^◌, ◌≤◌, map, length, take, drop}
+use Rattle.std.proofs.Common.{◌≡◌, ◌+◌, ◌≤◌, length, drop}
 use Rattle.database.specs.Walks.{above}
-use Rattle.elimination.specs.Signing.{signed_of}
+use Rattle.elimination.proofs.Signed.{Table}
 use Rattle.elimination.proofs.signatures.SignatureTable.new.Given as goal
 
-abbrev pub invariant-loop-number : goal.invariant-loop-number
-invariant-loop-number g l =
-    (length l.records ≡ 1024) × (l.len ≤ 1024) × (l.len ≤ length (g.D.ClauseDatabase.standing l.db)) ×
-    (take l.len l.records ≡ map signed_of (take l.len (g.D.ClauseDatabase.standing l.db))) ×
-    (above l.last (g.D.ClauseDatabase.standing l.db) ≡ drop l.len (g.D.ClauseDatabase.standing l.db))
-
-abbrev pub decreases-loop-number : goal.decreases-loop-number
-decreases-loop-number g l = 2 ^ 32 - l.last
+abbrev pub invariant-loop-entry : goal.invariant-loop-entry
+invariant-loop-entry g l =
+    (goal.iterator-loop-entry g).can_next l.entry-iterator × (goal.iterator-loop-entry g).is_finite l.entry-iterator ×
+    Table l.records.items l.last (g.D.ClauseDatabase.standing l.db) ×
+    (above l.entry-iterator.iter.above (g.D.ClauseDatabase.standing l.entry-iterator.iter.db.now) ≡ drop (length l.records.items) (g.D.ClauseDatabase.standing l.db)) ×
+    (length l.records.items + l.entry-iterator.n ≤ 1024)

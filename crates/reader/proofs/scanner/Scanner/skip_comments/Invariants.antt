@@ -1,12 +1,9 @@
-use Rattle.std.proofs.Common.{◌≡◌, ◌-◌, false, length}
+use Rattle.std.proofs.Common.{◌≡◌, false, length}
 use Rattle.reader.specs.Headers.{uncommented}
-use Rattle.reader.specs.Scanning.{rest_of}
 use Rattle.reader.proofs.scanner.Scanner.skip_comments.Given as goal
 
 abbrev pub invariant-loop-self : goal.invariant-loop-self
-invariant-loop-self l =
-    (l.self.text ≡ l.initial.self.text) ×
-    (uncommented false l.self.line (rest_of l.self).bytes ≡ uncommented false l.initial.self.line (rest_of l.initial.self).bytes)
+invariant-loop-self l = uncommented false l.self.line l.self.rest.now ≡ uncommented false l.initial.self.line l.initial.self.rest.now
 
 abbrev pub decreases-loop-self : goal.decreases-loop-self
-decreases-loop-self l = length l.initial.self.text.now - l.self.at
+decreases-loop-self l = length l.self.rest.now
