@@ -1,5 +1,5 @@
 // What is loaded again onto a second arena, and what is compared there.
-ghost use Rattle.std.specs.Prelude.{◌≡◌, true, [], take};
+ghost use Rattle.std.specs.Prelude.{◌≡◌, true, [], take, vec_len, IfOk};
 ghost use Rattle.reader.specs.Formulas.{read_text};
 ghost use Rattle.commissioning.specs.Compared.{LoadedAgain, Meets, SameAgain};
 
@@ -19,7 +19,13 @@ pub struct Spare {
 }
 
 impl Spare {
-    pub fn full_size(heap: Global) -> Result<Spare, AllocError> {
+    // As much as an arena uses at most, and as long as a text may be.
+    pub fn full_size(heap: Global) -> Result<Spare, AllocError>
+        ensures literals { IfOk result (λ s. vec_len s.arena.literals ≡ 16384) }
+        ensures records { IfOk result (λ s. vec_len s.arena.records ≡ 1024) }
+        ensures text { IfOk result (λ s. vec_len s.text ≡ 65536) }
+        ensures again { IfOk result (λ s. vec_len s.again ≡ 65536) }
+    {
         Ok(Spare {
             arena: ArenaMemory::full_size(heap)?,
             text: vec![in heap; 0u8; 65_536]?,
