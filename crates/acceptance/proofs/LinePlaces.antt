@@ -1,5 +1,5 @@
 -- Where the refusal of a line points.
-use Rattle.std.proofs.Common.{◌≡◌, ℕ, ◌≤◌, Bool, true, false, not, List, ℤ, neg_ℤ, Some, Option, sym, refl, ap, ◌∙◌, inl, inr, ⊎_elim, arith}
+use Rattle.std.proofs.Common.{◌≡◌, ℕ, ◌≤◌, Bool, true, false, not, List, ℤ, neg_ℤ, Some, Option, sym, refl, ap, ◌∙◌, subst, inl, inr, ⊎_elim, arith}
 use Rattle.std.proofs.lemmas.Bool.{cases_Bool, true≢false, or_from, or_parts, not-false, not_from_true}
 use Rattle.words.specs.declared.limits.Limits.{Limits}
 use Rattle.words.specs.declared.line.Field.{Field}
@@ -27,10 +27,10 @@ use Rattle.acceptance.proofs.Origins.{sort_of, never_then, never_space, never_ru
 use Rattle.acceptance.proofs.Positions.{positions_exactly}
 
 module _ (l : Limits) (room : Room) (given : ℕ) (s : List Entry) (saved : List Saved) where
-  -- the first wrong field
-  pub fields_place : (k : Kind) (c : ℕ) (p : ℤ) (f g : ℕ) (x : Field) →
+  -- the first wrong field, by its name
+  pub fields_named : (k : Kind) (c : ℕ) (p : ℤ) (f g : ℕ) (x : Field) →
       Iff (line_fault l room given s saved (line_of k c p f g) ≡ Some (fault.FieldWrong x)) (Lowest (WrongField (line_of k c p f g)) (field_number x))
-  fields_place k c p f g x =
+  fields_named k c p f g x =
       let line = line_of k c p f g in
       let rest = rule_fault given s line then space_fault l room s saved line in
       let exact = positions_exactly (λ (b : Bool). b) true (fields line) (field_number x) in
@@ -42,6 +42,19 @@ module _ (l : Limits) (room : Room) (given : ℕ) (s : List Entry) (saved : List
             let q : y.0 ≡ x = let e = y.2 in cc in
             exact.0 (sym walk ∙ ap (inside field_number) (y.1 ∙ ap Some q)),
         λ a. finds (field_fault line) rest (fault.FieldWrong x) (ap (inside fault.FieldWrong) (by_number (first_wrong all_fields (fields line)) x (walk ∙ exact.1 a))),
+      )
+
+  -- the first wrong field, by any number: the lowest place is that of a field
+  pub fields_place : (k : Kind) (c : ℕ) (p : ℤ) (f g i : ℕ) →
+      Iff ((x : Field) × (field_number x ≡ i) × (line_fault l room given s saved (line_of k c p f g) ≡ Some (fault.FieldWrong x))) (Lowest (WrongField (line_of k c p f g)) i)
+  fields_place k c p f g i =
+      let line = line_of k c p f g in
+      let rest = rule_fault given s line then space_fault l room s saved line in
+      let exact = positions_exactly (λ (b : Bool). b) true (fields line) i in (
+        λ h. subst (Lowest (WrongField line)) h.1 ((fields_named k c p f g h.0).0 h.2),
+        λ a.
+            let y = inside_found field_number i (first_wrong all_fields (fields line)) (fields_walk k c p f g ∙ exact.1 a) in
+            (y.0, y.2, finds (field_fault line) rest (fault.FieldWrong y.0) (ap (inside fault.FieldWrong) y.1)),
       )
 
 -- a clause fails rule B exactly when it holds the negated pivot and its resolvent is not tautological

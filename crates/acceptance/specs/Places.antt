@@ -65,8 +65,12 @@ UnmetUnder s a k = (d : List ℤ) × Stands s k d × (met a d ≡ false)
 -- ── The places ──
 
 pub record RefusalPlaces : Type 0 where
-  -- of a line: the first wrong field, by its place from 1 to 5
+  -- of a line: any number is the lowest place of a wrong field exactly when a field of that number is told, so no sixth place is
   pub field_place :
+      (l : Limits) (room : Room) (given : ℕ) (s : List Entry) (saved : List Saved) (line : Line) (i : ℕ) →
+      Iff ((f : Field) × (field_number f ≡ i) × (line_fault l room given s saved line ≡ Some (FieldWrong f))) (Lowest (WrongField line) i)
+  -- of a line: a field is told exactly when its place, from 1 to 5, is the lowest of a wrong field
+  pub field_named :
       (l : Limits) (room : Room) (given : ℕ) (s : List Entry) (saved : List Saved) (line : Line) (f : Field) →
       Iff (line_fault l room given s saved line ≡ Some (FieldWrong f)) (Lowest (WrongField line) (field_number f))
   -- of a B line: the lowest number of a clause that is not blocked

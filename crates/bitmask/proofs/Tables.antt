@@ -1,13 +1,14 @@
 -- The slots of a bitmask database and what stands in it.
-use Rattle.std.proofs.Common.{◌≡◌, ℕ, suc, ◌<◌, ◌≤◌, true, List, [], ◌∷◌, map, length, get_or, take, drop, refl, ap, arith}
-use Rattle.std.specs.List.{insert, remove}
-use Rattle.std.proofs.lemmas.List.{get_or-map, length-map, length-take, map-append, take-map, drop-map}
+use Rattle.std.proofs.Common.{◌≡◌, ℕ, suc, ◌+◌, ◌<◌, ◌≤◌, true, List, [], ◌∷◌, map, length, get_or, take, drop, sym, refl, ap, ◌∙◌, arith}
+use Rattle.std.specs.List.{insert, remove, sum_by}
+use Rattle.std.proofs.lemmas.List.{get_or-map, length-map, length-take, length-take-le, map-append, take-map, drop-map}
+use Rattle.std.proofs.lemmas.List.Sums.{sum_by-cons, sum_by-insert, sum_by-remove}
 use Rattle.std.proofs.lemmas.Bool.Decides.{nat_tests}
 use Rattle.words.specs.Literals.{number_ok}
 use Rattle.words.specs.Meanings.{lits_of}
 use Rattle.words.specs.declared.clause.Clause.{Clause}
 use Rattle.words.specs.declared.number.ClauseNumber.{ClauseNumber}
-use Rattle.words.specs.Standing.{Entry}
+use Rattle.words.specs.Standing.{Entry, literals}
 use Rattle.database.specs.Places.{numbers}
 use Rattle.bitmask.specs.Slots.{entry, entries}
 use Rattle.bitmask.specs.declared.slot.Slot.{Slot}
@@ -45,6 +46,23 @@ entries_remove ss i =
     let d = drop-map entry (suc i) ss in
     cc
 
+-- the literals of entries are the sum of their widths
+literals_sum : (es : List Entry) → literals es ≡ sum_by (λ e. length e.lits) es
+literals_sum [] = refl
+literals_sum (e ∷ es) = ap (λ n. length e.lits + n) (literals_sum es) ∙ sym (sum_by-cons (λ x. length x.lits) e es)
+
+-- an entry more adds its width
+pub literals_insert : (es : List Entry) (i : ℕ) (x : Entry) → literals (insert es i x) ≡ literals es + length x.lits
+literals_insert es i x =
+    let s = sum_by-insert (λ e. length e.lits) es i x in
+    omega (arith, literals_sum es, literals_sum (insert es i x))
+
+-- and one less takes its width away
+pub literals_remove : (es : List Entry) (i : ℕ) (d : Entry) → i < length es → literals (remove es i) + length (get_or es i d).lits ≡ literals es
+literals_remove es i d h =
+    let s = sum_by-remove (λ e. length e.lits) es i d h in
+    omega (arith, literals_sum es, literals_sum (remove es i))
+
 -- a clause as it is put under a number
 abbrev pub put_entry : ClauseNumber → Clause → Entry
 put_entry k c = record { number = k.value; lits = lits_of c }
@@ -56,3 +74,7 @@ number_right k = let l = k.low in let h = k.high in grind (arith, nat_tests)
 -- a clause has at most 64 literals
 pub clause_width : (c : Clause) → length (lits_of c) ≤ 64
 clause_width c = let t = length-take c.len c.lits in omega (arith, c.few)
+
+-- as many as its length says
+pub clause_len : (c : Clause) → length c.lits ≡ 64 → length (lits_of c) ≡ c.len
+clause_len c h = length-take-le c.len c.lits (omega (arith, c.few))

@@ -1,10 +1,11 @@
 -- Masks that tell the literals of a list, one more at a time.
-use Rattle.std.proofs.Common.{◌≡◌, ℕ, ◌+◌, ◌-◌, ◌*◌, ◌%◌, ◌^◌, ◌<◌, ◌≤◌, true, false, List, [], ◌∷◌, ◌++◌, ℤ, pos, negsuc, nat_abs, sym, ap, subst, arith}
+use Rattle.std.proofs.Common.{◌≡◌, ℕ, zero, suc, ◌+◌, ◌-◌, ◌*◌, ◌%◌, ◌^◌, ◌<◌, ◌≤◌, true, false, leb, List, [], ◌∷◌, ◌++◌, length, get_or, ℤ, pos, negsuc, nat_abs, sym, ap, subst, arith}
 use lib.Signed.{lt_z}
 use lib.Bits.{bit_or}
 use Rattle.std.proofs.lemmas.Nat.{one_shl}
 use Rattle.std.proofs.lemmas.Bool.{false≢true}
 use Rattle.std.proofs.lemmas.Bool.Decides.{nat_tests}
+use Rattle.words.specs.Clauses.{rising, within}
 use Rattle.words.proofs.Inserts.{has_push}
 use Rattle.bitmask.specs.Masks.{decoded, Tells}
 use Rattle.bitmask.specs.Slots.{entry}
@@ -70,6 +71,17 @@ module _ (p n u : ℕ) (l : ℤ) (low : 1 ≤ nat_abs l) (high : nat_abs l ≤ 6
       let s = one_shl (u - 1) 64 (omega arith) in
       subst (λ x. Tells p (bit_or n x) (zs ++ (l ∷ []))) (sym s)
       (subst (λ z. Tells p (bit_or n (2 ^ (u - 1))) (zs ++ (z ∷ []))) (sym (negative_is l u h low e)) (tells_negative p n (u - 1) zs t))
+
+-- of a clause the last literal has the highest variable
+pub within_last : (v w m i : ℕ) (zs : List ℤ) → rising v m zs ≡ true → i + 1 ≡ length zs → within w zs ≡ leb (nat_abs (get_or zs i (pos 0))) w
+within_last v w m i [] r h = absurd (omega arith)
+within_last v w m zero (z ∷ []) r h = grind (arith, nat_tests)
+within_last v w m (suc i) (z ∷ []) r h = absurd (omega arith)
+within_last v w m zero (z ∷ (y ∷ zs)) r h = absurd (omega arith)
+within_last v w m (suc i) (z ∷ (y ∷ zs)) r h =
+    let k : rising v (nat_abs z) (y ∷ zs) ≡ true = grind (arith, nat_tests) in
+    let ih = within_last v w (nat_abs z) i (y ∷ zs) k (omega arith) in
+    grind (arith, nat_tests)
 
 -- a slot from its number and what its masks tell
 pub entry_is : (s : Slot) (k : ℕ) (zs : List ℤ) → s.number ≡ k → decoded s.plus s.minus ≡ zs → entry s ≡ record { number = k; lits = zs }

@@ -28,7 +28,7 @@ impl ClauseDatabase for Bitmask {
     }
 
     fn literal_total(&self) -> usize {
-        self.total()
+        self.total
     }
 
     fn next(&self, above: u32) -> Option<ClauseNumber> {

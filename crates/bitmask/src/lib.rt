@@ -9,7 +9,7 @@ ghost use Rattle.arrayvec.specs.ArrayVec.{array_vec_len};
 ghost use Rattle.words.specs.Checks.{fault_of};
 ghost use Rattle.words.specs.Clauses.{within};
 ghost use Rattle.words.specs.Meanings.{lits_of};
-ghost use Rattle.words.specs.Standing.{stands, under, next_above, literals, inserted, without, put_fault};
+ghost use Rattle.words.specs.Standing.{stands, under, next_above, inserted, without, put_fault};
 ghost use Rattle.database.specs.Places.{place_of, rest_of};
 ghost use Rattle.bitmask.specs.Masks.{decoded};
 ghost use Rattle.bitmask.specs.Meanings.{mask_limits, standing_in};
@@ -32,6 +32,7 @@ impl Bitmask {
     {
         Bitmask {
             slots: ArrayVec::new(),
+            total: 0,
         }
     }
 
@@ -64,14 +65,6 @@ impl Bitmask {
         Some(ClauseNumber { value: slot.number })
     }
 
-    // How many literals the slots tell.
-    fn total(&self) -> usize
-        ensures { result ≡ literals (standing_in self.now) }
-    {
-        let slots = self.slots.as_slice();
-        slots.iter().map(|slot| slot.width()).sum()
-    }
-
     // The place where a clause goes, or why it can't be put. No clause is wider than 64, and 256 clauses have at most 16,384 literals.
     fn vacancy(&self, number: ClauseNumber, clause: &Clause) -> Result<usize, DatabaseFault>
         ensures fault { fault_of result ≡ put_fault mask_limits (standing_in self.now) (record { number = number.value; lits = lits_of clause.now }) }
@@ -99,6 +92,7 @@ impl Bitmask {
         ensures { standing_in self.new ≡ inserted (record { number = number.value; lits = lits_of clause.now }) (standing_in self.old) }
     {
         self.slots.insert(place, Slot::of(number.value, clause));
+        self.total += clause.len;
     }
 
     // Takes the clause at a place away.
@@ -106,6 +100,7 @@ impl Bitmask {
         requires { place < length (standing_in self.old) }
         ensures { standing_in self.new ≡ remove (standing_in self.old) place }
     {
-        self.slots.remove(place);
+        let slot = self.slots.remove(place);
+        self.total -= slot.width();
     }
 }

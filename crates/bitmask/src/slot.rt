@@ -24,13 +24,14 @@ fn has_bit(mask: u64, place: u8) -> bool
     (mask >> place) & 1 == 1
 }
 
-// Whether every variable of a clause has a bit.
+// Whether every variable of a clause has a bit: since they rise, the last one tells.
 pub(crate) fn fits(clause: &Clause) -> bool
     ensures { result ≡ within 64 (lits_of clause.now) }
 {
     clause
-        .into_iter()
-        .all(|literal| literal.value.unsigned_abs() <= 64)
+        .literals()
+        .last()
+        .is_none_or(|literal| literal.unsigned_abs() <= 64)
 }
 
 impl Slot {

@@ -21,7 +21,7 @@ ordered_inserted v w m x [] o h k c s = grind (arith, nat_tests)
 ordered_inserted v w m x (e ∷ es) o h k c s = let ih = ordered_inserted v w e.number x es in grind (arith, nat_tests, ih)
 
 -- an order above k is one above any lower number
-ordered_lower : (v w m k : ℕ) (es : List Entry) → k ≤ m → ordered v w m es ≡ true → ordered v w k es ≡ true
+pub ordered_lower : (v w m k : ℕ) (es : List Entry) → k ≤ m → ordered v w m es ≡ true → ordered v w k es ≡ true
 ordered_lower v w m k [] h o = refl
 ordered_lower v w m k (e ∷ es) h o = grind (arith, nat_tests)
 

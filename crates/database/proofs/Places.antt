@@ -120,17 +120,17 @@ module _ {X : Type 0} (n : X → ℕ) where
         gap_is k i xs es s h (λ j d u. ranked _ k _ (sym (p.0 j d (omega arith) u))) (λ j d u t. ranked _ k _ (sym (p.1 j d u t)))
 
 -- a number that is not above the bound of an order does not stand
-absent_below : (v w m k : ℕ) (es : List Entry) → ordered v w m es ≡ true → k ≤ m → stands k es ≡ false
+pub absent_below : (v w m k : ℕ) (es : List Entry) → ordered v w m es ≡ true → k ≤ m → stands k es ≡ false
 absent_below v w m k [] o h = refl
 absent_below v w m k (e ∷ es) o h = let ih = absent_below v w e.number k es in grind (arith, nat_tests, ih)
 
 -- a number that does not stand has no clause
-absent_under : (k : ℕ) (es : List Entry) → stands k es ≡ false → under k es ≡ None
+pub absent_under : (k : ℕ) (es : List Entry) → stands k es ≡ false → under k es ≡ None
 absent_under k [] s = refl
 absent_under k (e ∷ es) s = let ih = absent_under k es in grind (arith, nat_tests, ih)
 
 -- and nothing goes without it
-absent_without : (k : ℕ) (es : List Entry) → stands k es ≡ false → without k es ≡ es
+pub absent_without : (k : ℕ) (es : List Entry) → stands k es ≡ false → without k es ≡ es
 absent_without k [] s = refl
 absent_without k (e ∷ es) s =
     let a : stands k es ≡ false = grind (arith, nat_tests) in

@@ -21,7 +21,7 @@ use Rattle.elimination.specs.declared.signatures.SignedNumber.{SignedNumber}
 use Rattle.elimination.specs.Signing.{signature_from, signed_of, equal_to}
 
 -- a test that decides whether two lists are equal
-equal_decided : (r : Bool) (a b : List ℤ) → Decides r (a ≡ b) → r ≡ equal a b
+pub equal_decided : (r : Bool) (a b : List ℤ) → Decides r (a ≡ b) → r ≡ equal a b
 equal_decided r a b d = same_tests r (equal a b) ((λ t. ap (equal a) (sym (d.0 t)) ∙ equal_refl a), λ t. d.1 (equal_is a b t))
 
 -- what `==` tells of two clauses

@@ -15,14 +15,14 @@ fn pair_covered<D: ClauseDatabase>(
     second: &Clause,
     pivot: Literal,
 ) -> bool
-    requires { Holds marks.now.bytes.now marks.now.clause.now }
-    ensures { result ≡ covered pivot.value (D.standing table.now.db.now) (lits_of marks.now.clause.now) (lits_of second.now) }
+    requires { Holds marks.now.bytes.now marks.now.clause }
+    ensures { result ≡ covered pivot.value (D.standing table.now.db.now) (lits_of marks.now.clause) (lits_of second.now) }
 {
-    if marks.clash(second, pivot) {
+    if marks.opposes(second, pivot) {
         return true;
     }
     // A `match` and no `is_some_and`: of a closure that looks into the table, what it gives would not be known.
-    match resolvent(marks.clause, second, pivot) {
+    match resolvent(&marks.clause, second, pivot) {
         Some(clause) => table.stands(&clause),
         None => false,
     }

@@ -16,16 +16,16 @@ use words::{Clause, ClauseNumber, Literal, SessionFault};
 
 // Whether a clause holds the negated pivot and its resolvent with the marked clause holds no opposite pair.
 fn unblocked(marks: &Marks<'_>, other: &Clause, pivot: Literal) -> bool
-    requires { Holds marks.now.bytes.now marks.now.clause.now }
-    ensures { result ≡ (has (neg_ℤ pivot.value) (lits_of other.now) && not (opposed (resolvent pivot.value (lits_of marks.now.clause.now) (lits_of other.now)))) }
+    requires { Holds marks.now.bytes.now marks.now.clause }
+    ensures { result ≡ (has (neg_ℤ pivot.value) (lits_of other.now) && not (opposed (resolvent pivot.value (lits_of marks.now.clause) (lits_of other.now)))) }
 {
-    other.has(pivot.negated()) && !marks.clash(other, pivot)
+    other.has(pivot.negated()) && !marks.opposes(other, pivot)
 }
 
 // The lowest number of a standing clause against which the marked clause is not blocked.
 fn first_unblocked<D: ClauseDatabase>(db: &D, marks: &Marks<'_>, pivot: Literal) -> Option<u32>
-    requires { Holds marks.now.bytes.now marks.now.clause.now }
-    ensures { result ≡ first_unblocked pivot.value (lits_of marks.now.clause.now) (D.standing db.now) }
+    requires { Holds marks.now.bytes.now marks.now.clause }
+    ensures { result ≡ first_unblocked pivot.value (lits_of marks.now.clause) (D.standing db.now) }
 {
     standing(db)
         .find(|entry| unblocked(marks, &entry.clause, pivot))

@@ -41,7 +41,7 @@ fn judge<D: ClauseDatabase>(
         return Err(SessionFault::Lacking(second.value));
     }
     let marks = Marks::of(bytes, &a);
-    if marks.clash(&b, pivot) {
+    if marks.opposes(&b, pivot) {
         return Err(SessionFault::Tautology(first.value, second.value));
     }
     resolvent(&a, &b, pivot).ok_or(SessionFault::ResolventTooWide(first.value, second.value))

@@ -1,4 +1,4 @@
-ghost use Rattle.std.specs.Prelude.{◌≡◌, ◌==◌, length, neg_ℤ, replicate, true};
+ghost use Rattle.std.specs.Prelude.{◌≡◌, ◌==◌, [], length, neg_ℤ, replicate, true};
 ghost use Rattle.std.specs.List.{list_all};
 ghost use Rattle.words.specs.Clauses.{opposed, resolvent, subset};
 ghost use Rattle.words.specs.Marks.{Marked};
@@ -12,7 +12,7 @@ use words::{Clause, Literal};
 // clause's literals and no others is no ghost field: what is known of the lent bytes after the wiping would then be lost.
 pub struct Marks<'a> {
     bytes: &'a mut [u8],
-    pub clause: &'a Clause,
+    pub clause: Clause,
 }
 
 impl Drop for Marks<'_> {
@@ -55,16 +55,29 @@ fn set(bytes: &mut [u8], clause: &Clause)
 }
 
 impl<'a> Marks<'a> {
+    // The marks in these bytes, as they are.
+    pub fn over(bytes: &'a mut [u8]) -> Marks<'a>
+        ensures bytes { result.bytes ≡ bytes.entry }
+        ensures clause { lits_of result.clause ≡ [] }
+    {
+        let clause = Clause::empty();
+        Marks { bytes, clause }
+    }
+
     // Marks each literal of a clause in these bytes; a place past the end stays unmarked.
-    pub fn of(bytes: &'a mut [u8], clause: &'a Clause) -> Marks<'a>
+    pub fn of(bytes: &'a mut [u8], clause: &Clause) -> Marks<'a>
         ensures after { result.bytes.now ≡ with_marks bytes.old (lits_of clause.now) }
-        ensures clause { lits_of result.clause.now ≡ lits_of clause.now }
-        ensures held { bytes.old ≡ replicate 1024 0 → Holds result.bytes.now result.clause.now }
+        ensures clause { lits_of result.clause ≡ lits_of clause.now }
+        ensures held { bytes.old ≡ replicate 1024 0 → Holds result.bytes.now result.clause }
+        ensures marked { bytes.old ≡ replicate 1024 0 → Marked 512 result.bytes.now (lits_of clause.now) }
         ensures len { length result.bytes.now ≡ length bytes.old }
         ensures same { result.bytes.ghost_name ≡ bytes.entry.ghost_name }
     {
         set(bytes, clause);
-        Marks { bytes, clause }
+        Marks {
+            bytes,
+            clause: *clause,
+        }
     }
 
     // Marks each literal of a further clause.
@@ -78,14 +91,20 @@ impl<'a> Marks<'a> {
         set(self.bytes, further);
     }
 
-    // Whether the resolvent of the marked clause with another holds an opposite pair: whether the negation of some literal of
-    // the other, but the pivot's, is marked.
-    pub fn clash(&self, other: &Clause, pivot: Literal) -> bool
+    // Whether the resolvent of the marked clause with another on a pivot holds an opposite pair: the negated pivot, in the other, is
+    // left out.
+    pub fn opposes(&self, other: &Clause, pivot: Literal) -> bool
         ensures looked_up { result ≡ marks_clash self.now.bytes.now (neg_ℤ pivot.value) (lits_of other.now) }
-        ensures tells { Holds self.now.bytes.now self.now.clause.now → opposed (resolvent pivot.value (lits_of self.now.clause.now) (lits_of other.now)) ≡ result }
+        ensures tells { Holds self.now.bytes.now self.now.clause → opposed (resolvent pivot.value (lits_of self.now.clause) (lits_of other.now)) ≡ result }
     {
-        let except = pivot.negated();
-        for l in other {
+        self.clash(other, pivot.negated())
+    }
+
+    // Whether the negation of some literal of a clause, other than one, is marked.
+    pub fn clash(&self, clause: &Clause, except: Literal) -> bool
+        ensures { result ≡ marks_clash self.now.bytes.now except.value (lits_of clause.now) }
+    {
+        for l in clause {
             if l != except && self.has(l.negated()) {
                 return true;
             }
@@ -96,7 +115,7 @@ impl<'a> Marks<'a> {
     // Whether every literal of another clause is marked.
     pub fn cover(&self, other: &Clause) -> bool
         ensures looked_up { result ≡ marks_cover self.now.bytes.now (lits_of other.now) }
-        ensures tells { Holds self.now.bytes.now self.now.clause.now → result ≡ subset (lits_of other.now) (lits_of self.now.clause.now) }
+        ensures tells { Holds self.now.bytes.now self.now.clause → result ≡ subset (lits_of other.now) (lits_of self.now.clause) }
     {
         for l in other {
             if !self.has(l) {

@@ -6,7 +6,7 @@ use Rattle.output.specs.declared.Output.{Output}
 use Rattle.output.specs.Puts.{Puts}
 
 -- a text of two parts is stored part by part
-sets_append : (t u s : List ℕ) (i : ℕ) → sets s i (t ++ u) ≡ sets (sets s i t) (i + length t) u
+pub sets_append : (t u s : List ℕ) (i : ℕ) → sets s i (t ++ u) ≡ sets (sets s i t) (i + length t) u
 sets_append [] u s i = let e : i ≡ i + 0 = omega arith in ap (λ k. sets s k u) e
 sets_append (x ∷ t) u s i =
     let e : suc i + length t ≡ i + suc (length t) = omega arith in

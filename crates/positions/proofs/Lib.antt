@@ -1,2 +1,2 @@
-mod Stores
-mod Writing
+pub mod Stores
+pub mod Writing

@@ -17,7 +17,7 @@ sets_nowhere i [] = refl
 sets_nowhere i (b ∷ bs) = sets_nowhere (suc i) bs
 
 -- stored one after another from the first place on, they are its front
-sets_fronted : (bs old : List ℕ) → sets old 0 bs ≡ fronted bs old
+pub sets_fronted : (bs old : List ℕ) → sets old 0 bs ≡ fronted bs old
 sets_fronted [] old = refl
 sets_fronted (b ∷ bs) [] = sets_nowhere 1 bs
 sets_fronted (b ∷ bs) (o ∷ old) = sets_behind b old 0 bs ∙ ap (◌∷◌ b) (sets_fronted bs old)

@@ -17,7 +17,7 @@ values_few (b ∷ bs) =
     (cases_Bool (blank b))
 
 -- a position's text has at most two bytes for each value and one more
-length_behind : (vs : List ℕ) → length (text_behind vs) ≡ 2 * length vs + 1
+pub length_behind : (vs : List ℕ) → length (text_behind vs) ≡ 2 * length vs + 1
 length_behind [] = refl
 length_behind (v ∷ vs) = let ih = length_behind vs in omega arith
 

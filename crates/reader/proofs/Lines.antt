@@ -23,7 +23,7 @@ past_feeds (b ∷ bs) l =
     (cases_Bool (eqb b 10))
 
 -- and never takes one away
-past_low : (bs : List ℕ) (l : ℕ) → l ≤ line_past bs l
+pub past_low : (bs : List ℕ) (l : ℕ) → l ≤ line_past bs l
 past_low bs l = omega (arith, past_feeds bs l)
 
 last_pushed : (w : List ℕ) (b : ℕ) → length (last_of (w ++ b ∷ [])) ≡ 1

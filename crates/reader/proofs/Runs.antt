@@ -1,7 +1,7 @@
 -- Words as runs of bytes.
-use Rattle.std.proofs.Common.{◌≡◌, ℕ, suc, ◌<◌, ◌≤◌, true, false, cond, not, List, [], ◌∷◌, ◌++◌, length, take, drop, sym, refl, ap, ◌∙◌, ⊎_elim, arith}
+use Rattle.std.proofs.Common.{◌≡◌, ℕ, suc, ◌<◌, true, false, cond, not, List, [], ◌∷◌, ◌++◌, length, get_or, take, drop, sym, refl, ap, ◌∙◌, ⊎_elim, arith}
 use Rattle.std.specs.List.{prefix_len}
-use Rattle.std.proofs.lemmas.List.{append_assoc, append-nil, length-take}
+use Rattle.std.proofs.lemmas.List.{append_assoc, append-nil}
 use Rattle.std.proofs.lemmas.Bool.{cases_Bool, cond-true, cond-false}
 use Rattle.std.proofs.lemmas.Bool.Decides.{nat_tests}
 use Rattle.textlines.specs.Lines.{blank}
@@ -59,62 +59,28 @@ pub some_word : (l : ℕ) (w : List ℕ) (ws : List Part) → 0 < length w → w
 some_word l [] ws h = absurd (omega arith)
 some_word l (b ∷ bs) ws h = refl
 
--- blanks before the words are passed over, and none stands behind them
-module _ (b : ℕ) (bs : List ℕ) where
-  more_blanks : blank b ≡ true → prefix_len (λ b. blank b) (b ∷ bs) ≡ suc (prefix_len (λ b. blank b) bs)
-  more_blanks t = cond-true (blank b) _ _ t ∙ omega arith
+-- where no blank stands and the run is empty, nothing is left
+nothing_left : (bs : List ℕ) → (0 < length bs → blank (get_or bs 0 0) ≡ false) → length (take (run bs) bs) ≡ 0 → bs ≡ []
+nothing_left [] s h = refl
+nothing_left (b ∷ bs) s h =
+    let e : run (b ∷ bs) ≡ suc (run bs) = cond-false (blank b) _ _ (s (omega arith)) in
+    let f : length (take (run (b ∷ bs)) (b ∷ bs)) ≡ suc (length (take (run bs) bs)) = ap (λ n. length (take n (b ∷ bs))) e in
+    absurd (omega arith)
 
-  no_blanks : blank b ≡ false → prefix_len (λ b. blank b) (b ∷ bs) ≡ 0
-  no_blanks t = cond-false (blank b) _ _ t
+-- a text before which no blank is left, its word w, and what is left behind that, as the code comes to them
+module _ (l : ℕ) (bs ds w : List ℕ) (p : w ≡ take (prefix_len (λ b. not (blank b)) bs) bs) (r : ds ≡ drop (prefix_len (λ b. not (blank b)) bs) bs) where
+  as_run : w ≡ take (run bs) bs
+  as_run = p ∙ ap (λ n. take n bs) (run_counted bs)
 
-pub blanks_passed : (bs : List ℕ) (l : ℕ) →
-    words_on l [] bs ≡ words_on (line_past (take (prefix_len (λ b. blank b) bs) bs) l) [] (drop (prefix_len (λ b. blank b) bs) bs)
-blanks_passed [] l = refl
-blanks_passed (b ∷ bs) l =
-    let behind : ℕ → List Part = λ n. words_on (line_past (take n (b ∷ bs)) l) [] (drop n (b ∷ bs)) in
-    ⊎_elim
-    (λ (t : blank b ≡ true).
-    let q : words_on l [] (b ∷ bs) ≡ words_on (line_behind b l) [] bs = cond-true (blank b) _ _ t in
-    q ∙ blanks_passed bs (line_behind b l) ∙ sym (ap behind (more_blanks b bs t)))
-    (λ (t : blank b ≡ false). sym (ap behind (no_blanks b bs t)))
-    (cases_Bool (blank b))
+  behind : ds ≡ drop (run bs) bs
+  behind = r ∙ ap (λ n. drop n bs) (run_counted bs)
 
-pub nothing_behind : (bs : List ℕ) → run (drop (prefix_len (λ b. blank b) bs) bs) ≡ 0 → drop (prefix_len (λ b. blank b) bs) bs ≡ []
-nothing_behind [] h = refl
-nothing_behind (b ∷ bs) h =
-    ⊎_elim
-    (λ (t : blank b ≡ true).
-    let d : drop (prefix_len (λ b. blank b) (b ∷ bs)) (b ∷ bs) ≡ drop (prefix_len (λ b. blank b) bs) bs = ap (λ n. drop n (b ∷ bs)) (more_blanks b bs t) in
-    d ∙ nothing_behind bs (sym (ap run d) ∙ h))
-    (λ (t : blank b ≡ false).
-    let d : drop (prefix_len (λ b. blank b) (b ∷ bs)) (b ∷ bs) ≡ b ∷ bs = ap (λ n. drop n (b ∷ bs)) (no_blanks b bs t) in
-    let e : run (b ∷ bs) ≡ suc (run bs) = cond-false (blank b) _ _ t in
-    let z : run (b ∷ bs) ≡ 0 = sym (ap run d) ∙ h in
-    absurd (omega arith))
-    (cases_Bool (blank b))
-
--- a text, what is left of it behind its blanks, and what is left of that behind a word w, as the code comes to them
-module _ (l l1 l2 m n : ℕ) (bs cs ds w : List ℕ) (e : m ≡ prefix_len (λ b. blank b) bs) (k : l1 ≡ line_past (take m bs) l) (d : cs ≡ drop m bs)
-    (f : n ≡ prefix_len (λ b. not (blank b)) cs) (q : l2 ≡ line_past (take n cs) l1) (r : ds ≡ drop n cs) (p : w ≡ take n cs) where
-  passed : words_on l [] bs ≡ words_on l1 [] cs
-  passed =
-      blanks_passed bs l ∙ ap (λ j. words_on (line_past (take j bs) l) [] (drop j bs)) (sym e) ∙ ap (λ j. words_on j [] (drop m bs)) (sym k) ∙
-      ap (words_on l1 []) (sym d)
-
-  as_run : n ≡ run cs
-  as_run = f ∙ run_counted cs
-
-  pub word_found : 0 < length w → words_on l [] bs ≡ record { line = l1; bytes = w } ∷ words_on l2 [] ds
+  pub word_found : 0 < length w → words_on l [] bs ≡ record { line = l; bytes = w } ∷ words_on l [] ds
   word_found h =
-      let same_line : l2 ≡ l1 = q ∙ ap (λ j. line_past (take j cs) l1) as_run ∙ run_line cs l1 in
-      let found : words_on l1 [] cs ≡ word_before l1 (take n cs) (words_on l1 [] (drop n cs)) =
-      words_run l1 [] cs ∙ ap (λ j. word_before l1 (take j cs) (words_on l1 [] (drop j cs))) (sym as_run) in
-      passed ∙ found ∙ ap (λ v. word_before l1 v (words_on l1 [] (drop n cs))) (sym p) ∙ some_word l1 w _ h ∙
-      ap (λ j. record { line = l1; bytes = w } ∷ words_on j [] (drop n cs)) (sym same_line) ∙ ap (λ v. record { line = l1; bytes = w } ∷ words_on l2 [] v) (sym r)
+      words_run l [] bs ∙ ap (λ v. word_before l v (words_on l [] (drop (run bs) bs))) (sym as_run) ∙ some_word l w _ h ∙
+      ap (λ v. record { line = l; bytes = w } ∷ words_on l [] v) (sym behind)
 
-  pub no_word : n ≤ length cs → length w ≡ 0 → (words_on l [] bs ≡ []) × (words_on l2 [] ds ≡ [])
-  no_word g h =
-      let none : n ≡ 0 = let t = ap length p in omega (arith, length-take n cs) in
-      let behind : cs ≡ drop (prefix_len (λ b. blank b) bs) bs = d ∙ ap (λ j. drop j bs) e in
-      let nil : cs ≡ [] = behind ∙ nothing_behind bs (sym (ap run behind) ∙ sym as_run ∙ none) in
-      (passed ∙ ap (words_on l1 []) nil, ap (words_on l2 []) (r ∙ ap (λ j. drop j cs) none ∙ nil))
+  pub no_word : (0 < length bs → blank (get_or bs 0 0) ≡ false) → length w ≡ 0 → (words_on l [] bs ≡ []) × (words_on l [] ds ≡ [])
+  no_word s h =
+      let nil : bs ≡ [] = nothing_left bs s (sym (ap length as_run) ∙ h) in
+      (ap (words_on l []) nil, ap (words_on l []) (behind ∙ ap (λ v. drop (run v) v) nil))

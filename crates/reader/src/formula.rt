@@ -17,14 +17,14 @@ use loading::{Loading, open};
 use reconstruction::ReconstructionStack;
 use words::{File, FileFault, LocatedFault};
 
-// Reads the words to come, in a text with this last line, and loads their lists.
+// Reads the words to come in a text, and loads their lists. Only where the text ends too early is its last line looked for.
 fn read_lists<D: ClauseDatabase>(
     words: Scanner<'_>,
-    last_line: usize,
+    text: &[u8],
     mut lists: Lists,
     db: &mut D,
 ) -> Result<Loading, LocatedFault>
-    ensures outcome { Ends (read_words (D.limited db.old) lists.header.counts last_line (reading lists (D.standing db.old)) (words_of words.entry)) result (D.standing db.new) }
+    ensures outcome { Ends (read_words (D.limited db.old) lists.header.counts (last_line text.now) (reading lists (D.standing db.old)) (words_of words.entry)) result (D.standing db.new) }
     ensures limits { D.limited db.new ≡ D.limited db.old }
 {
     for (line, word) in words {
@@ -34,7 +34,7 @@ fn read_lists<D: ClauseDatabase>(
     }
     lists
         .end()
-        .map_err(|fault| fault.at(File::Formula, last_line))
+        .map_err(|fault| fault.at(File::Formula, last_line(text)))
 }
 
 // Opens a session for a header and reads what is left of the text behind it.
@@ -50,7 +50,7 @@ fn read_rest<D: ClauseDatabase>(
 {
     let opened = open(header.counts.variables, db, stack);
     let session = opened.map_err(|fault| FileFault::from(fault).at(File::Formula, 0))?;
-    read_lists(scanner, last_line(text), Lists::new(header, session), db)
+    read_lists(scanner, text, Lists::new(header, session), db)
 }
 
 // Reads a formula of DIMACS CNF text: opens a session after the header and loads the lists, up to the end or the first fault.

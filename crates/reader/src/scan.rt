@@ -1,30 +1,22 @@
 // Going through a text from word to word.
-ghost use Rattle.std.specs.Prelude.{◌≡◌, ◌≤◌, ◌==◌, cond, not, length, take, drop, count_by};
+ghost use Rattle.std.specs.Prelude.{◌≡◌, ◌<◌, ◌≤◌, false, not, length, take, drop, slice_index};
 ghost use Rattle.std.specs.List.{prefix_len};
 ghost use Rattle.std.specs.Iterator.{YieldsFirstBy, item_count};
 ghost use Rattle.textlines.specs.Lines.{blank};
-ghost use Rattle.reader.specs.Tokens.{line_past, last_line, line_before};
+ghost use Rattle.reader.specs.Tokens.{last_line, line_before};
 ghost use Rattle.reader.specs.Scanning.{rest_of, words_of};
 
 use crate::scanner::Scanner;
 use textlines::{count_lines, is_blank};
 
-// How many bytes a text begins with that are blanks, or that are none. A flag and no closure: the two runs of a word differ in nothing
-// else.
-fn run(text: &[u8], blanks: bool) -> usize
-    ensures value { result ≡ prefix_len (λ b. cond blanks (blank b) (not (blank b))) text.now }
+// Where the word ends with which a text begins: how many bytes stand before its first blank.
+fn word_end(text: &[u8]) -> usize
+    ensures value { result ≡ prefix_len (λ b. not (blank b)) text.now }
     ensures fits { result ≤ length text.now }
 {
     text.iter()
-        .take_while(|byte| is_blank(**byte) == blanks)
-        .count()
-}
-
-// How many line feeds there are.
-fn feeds(bytes: &[u8]) -> usize
-    ensures { result ≡ count_by (λ b. b == 10) bytes.now }
-{
-    bytes.iter().filter(|byte| **byte == b'\n').count()
+        .position(|byte| is_blank(*byte))
+        .unwrap_or(text.len())
 }
 
 // The last line of a text that has a byte, or 1.
@@ -56,17 +48,28 @@ impl<'a> Scanner<'a> {
         self.line
     }
 
-    // Goes behind so many bytes, and gives them.
-    fn pass(&mut self, count: usize) -> &'a [u8]
-        requires { count ≤ length self.old.rest.now }
-        ensures passed { result.now ≡ take count self.old.rest.now }
-        ensures rest { self.new.rest.now ≡ drop count self.old.rest.now }
-        ensures line { self.new.line ≡ line_past (take count self.old.rest.now) self.old.line }
+    // Goes behind the blanks that stand here. A `while`: it counts their line feeds as it goes, so no byte is read twice.
+    fn skip_blanks(&mut self)
+        ensures words { words_of self.new ≡ words_of self.old }
+        ensures stops { 0 < length self.new.rest.now → blank (slice_index self.new.rest.now 0) ≡ false }
     {
-        let (passed, rest) = self.rest.split_at(count);
-        self.line += feeds(passed);
+        while let [byte, rest @ ..] = self.rest
+            && is_blank(*byte)
+        {
+            self.line += usize::from(*byte == b'\n');
+            self.rest = rest;
+        }
+    }
+
+    // Goes behind the word that stands here, and gives it. No line feed is in a word, so the line stays.
+    fn take_word(&mut self) -> &'a [u8]
+        ensures word { result.now ≡ take (prefix_len (λ b. not (blank b)) self.old.rest.now) self.old.rest.now }
+        ensures rest { self.new.rest.now ≡ drop (prefix_len (λ b. not (blank b)) self.old.rest.now) self.old.rest.now }
+        ensures line { self.new.line ≡ self.old.line }
+    {
+        let (word, rest) = self.rest.split_at(word_end(self.rest));
         self.rest = rest;
-        passed
+        word
     }
 }
 
@@ -79,9 +82,8 @@ impl<'a> Iterator for Scanner<'a> {
     ghost remaining = { item_count words_of };
 
     fn next(&mut self) -> Option<(usize, &'a [u8])> {
-        self.pass(run(self.rest, true));
-        let line = self.line;
-        let word = self.pass(run(self.rest, false));
-        (!word.is_empty()).then_some((line, word))
+        self.skip_blanks();
+        let word = self.take_word();
+        (!word.is_empty()).then_some((self.line, word))
     }
 }

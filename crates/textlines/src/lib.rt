@@ -15,7 +15,7 @@ mod tests;
 pub fn is_blank(byte: u8) -> bool
     ensures { result ≡ blank byte }
 {
-    matches!(byte, b' ' | b'\t' | b'\r' | b'\n')
+    b" \t\r\n".contains(&byte)
 }
 
 // How many bytes stand before the first that is this one.

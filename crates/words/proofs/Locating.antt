@@ -117,3 +117,11 @@ module _ (z : ℤ) (low : 0 < nat_abs z) (high : nat_abs z ≤ 512) (c : List �
       let all : lower (nat_abs z) c ≡ true = ap (lower (nat_abs z)) (sym (take_all i c l)) ∙ w in
       subst (λ k. Located 512 z c (Free k)) q (located_end 512 z low high c r all))
       (cases_lt i (length c))
+
+  -- its variable is lower than the first
+  pub found_front : (x : ℤ) → 0 < length c → x ≡ get_or c 0 (pos 0) → v < read_variable x → Located 512 z c (Free 0)
+  found_front x h q l =
+      let a = read 0 (pos 0) h in
+      let t = sought in
+      let k = ap read_variable q in
+      located_free 512 z low high c 0 (get_or c 0 (pos 0)) h refl r refl (omega arith)

@@ -86,7 +86,14 @@ impl Clause {
         ensures size { length (take self.now.len self.now.lits) ≡ self.now.len }
     {
         let literals = self.literals();
-        let found = literals.binary_search_by_key(&l.value.unsigned_abs(), |x| x.unsigned_abs());
+        let variable = l.value.unsigned_abs();
+        // Most of what is looked for has no place but the first: a low pivot, and each literal of a list that falls.
+        if let Some(first) = literals.first()
+            && variable < first.unsigned_abs()
+        {
+            return Spot::Free(0);
+        }
+        let found = literals.binary_search_by_key(&variable, |x| x.unsigned_abs());
         match found {
             Ok(at) if literals[at] == l.value => Spot::Present,
             Ok(_) => Spot::Opposite,

@@ -14,5 +14,5 @@ invariant-loop-first g l =
 abbrev pub invariant-loop-second : goal.invariant-loop-second
 invariant-loop-second g l =
     (goal.iterator-loop-second g).can_next l.second-iterator × (goal.iterator-loop-second g).is_finite l.second-iterator ×
-    (uncovered_with l.pivot.value (g.D.ClauseDatabase.standing l.table.db.now) (lits_of l.marks.clause.now) (side (neg_ℤ l.pivot.value) (above l.second-iterator.above (g.D.ClauseDatabase.standing l.second-iterator.db.now))) ≡
-    uncovered_with l.pivot.value (g.D.ClauseDatabase.standing l.table.db.now) (lits_of l.marks.clause.now) (side (neg_ℤ l.pivot.value) (g.D.ClauseDatabase.standing l.table.db.now)))
+    (uncovered_with l.pivot.value (g.D.ClauseDatabase.standing l.table.db.now) (lits_of l.marks.clause) (side (neg_ℤ l.pivot.value) (above l.second-iterator.above (g.D.ClauseDatabase.standing l.second-iterator.db.now))) ≡
+    uncovered_with l.pivot.value (g.D.ClauseDatabase.standing l.table.db.now) (lits_of l.marks.clause) (side (neg_ℤ l.pivot.value) (g.D.ClauseDatabase.standing l.table.db.now)))

@@ -13,7 +13,7 @@ use Rattle.lines.proofs.blocked.first_unblocked.Goals as goal
 pub returns : goal.returns
 returns g c =
     let z = c.args.pivot.value in
-    let a = lits_of c.args.marks.now.clause.now in
+    let a = lits_of c.args.marks.now.clause in
     let s = g.D.ClauseDatabase.standing c.args.db.now in
     let f = find_from_yields_List (λ (e : Entry). has (neg_ℤ z) e.lits && not (opposed (resolvent z a e.lits))) c.find.new.self _ c.find.result c.find.ensures.ran
     (YieldsList-from_first entry_of (λ w. above w.above (g.D.ClauseDatabase.standing w.db.now)) s c.standing.ensures.all) (λ x b q k. search (rules, tests)) in

@@ -40,11 +40,11 @@ returns-then-not-has-2 g c =
       marks = c.requires;
     }
 
-pub returns-then-clash : goal.returns-then-clash
-returns-then-clash g c =
+pub returns-then-opposes : goal.returns-then-opposes
+returns-then-opposes g c =
     let n1 = c.of-marks.ensures.same in
     let d : c.drop-marks.new.self.0 ≡ replicate 1024 0 = c.drop-marks.ensures ∙ ap (λ n. replicate n 0) (c.of-marks.ensures.len ∙ ap length c.requires) in
-    let o = sym (ap (λ x. opposed (resolvent c.args.line.pivot.value x (lits_of c.in_ok-b.b))) c.of-marks.ensures.clause) ∙ c.if-clash.ensures.tells (c.of-marks.ensures.held c.requires) in
+    let o = sym (ap (λ x. opposed (resolvent c.args.line.pivot.value x (lits_of c.in_ok-b.b))) c.of-marks.ensures.clause) ∙ c.if-opposes.ensures.tells (c.of-marks.ensures.held c.requires) in
     record {
       judged = tautology c.args.given c.args.line.number.value c.args.line.pivot.value c.args.line.first.value c.args.line.second.value (g.D.ClauseDatabase.standing c.args.db.now) (omega arith) _ (read _ _ _ _ c.in_ok-a.ensures.value c.clause.ensures) _ (read _ _ _ _ c.in_ok-b.ensures.value c.clause-2.ensures) c.if-not-has.ensures _ c.negated.ensures c.if-not-has-2.ensures o;
       marks = search rules;
@@ -54,7 +54,7 @@ pub returns : goal.returns
 returns g c =
     let n1 = c.of-marks.ensures.same in
     let d : c.drop-marks-2.new.self.0 ≡ replicate 1024 0 = c.drop-marks-2.ensures ∙ ap (λ n. replicate n 0) (c.of-marks.ensures.len ∙ ap length c.requires) in
-    let o = sym (ap (λ x. opposed (resolvent c.args.line.pivot.value x (lits_of c.in_ok-b.b))) c.of-marks.ensures.clause) ∙ c.if-clash.ensures.tells (c.of-marks.ensures.held c.requires) in
+    let o = sym (ap (λ x. opposed (resolvent c.args.line.pivot.value x (lits_of c.in_ok-b.b))) c.of-marks.ensures.clause) ∙ c.if-opposes.ensures.tells (c.of-marks.ensures.held c.requires) in
     let b =
     built c.args.given c.args.line.number.value c.args.line.pivot.value c.args.line.first.value c.args.line.second.value (g.D.ClauseDatabase.standing c.args.db.now) (omega arith) _ (read _ _ _ _ c.in_ok-a.ensures.value c.clause.ensures) _ (read _ _ _ _ c.in_ok-b.ensures.value c.clause-2.ensures) c.if-not-has.ensures _ c.negated.ensures c.if-not-has-2.ensures o
     c.resolvent.result (c.resolvent.ensures ∙ unopposed c.args.line.pivot.value (lits_of c.in_ok-a.a) (lits_of c.in_ok-b.b) o) in

@@ -6,4 +6,4 @@ use Rattle.marking.proofs.marks.Marks.clash.Given as goal
 abbrev pub invariant-loop-l : goal.invariant-loop-l
 invariant-loop-l l =
     (goal.iterator-loop-l).can_next l.l-iterator × (goal.iterator-loop-l).is_finite l.l-iterator ×
-    (marks_clash l.self.bytes.now l.except.value l.l-iterator.rest.now ≡ marks_clash l.self.bytes.now l.except.value (lits_of l.other))
+    (marks_clash l.self.bytes.now l.except.value l.l-iterator.rest.now ≡ marks_clash l.self.bytes.now l.except.value (lits_of l.clause))
