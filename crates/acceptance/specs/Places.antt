@@ -65,7 +65,7 @@ UnmetUnder s a k = (d : List ℤ) × Stands s k d × (met a d ≡ false)
 -- ── The places ──
 
 pub record RefusalPlaces : Type 0 where
-  -- of a line: any number is the lowest place of a wrong field exactly when a field of that number is told, so no sixth place is
+  -- of a line, for each number: it is the lowest place of a wrong field exactly when the field of that number is told, so no sixth place is
   pub field_place :
       (l : Limits) (room : Room) (given : ℕ) (s : List Entry) (saved : List Saved) (line : Line) (i : ℕ) →
       Iff ((f : Field) × (field_number f ≡ i) × (line_fault l room given s saved line ≡ Some (FieldWrong f))) (Lowest (WrongField line) i)

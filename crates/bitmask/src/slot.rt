@@ -31,7 +31,7 @@ pub(crate) fn fits(clause: &Clause) -> bool
     clause
         .literals()
         .last()
-        .is_none_or(|literal| literal.unsigned_abs() <= 64)
+        .is_none_or(|value| value.unsigned_abs() <= 64)
 }
 
 impl Slot {

@@ -10,6 +10,7 @@ use words::{Clause, Literal};
 
 // The literal marks of a clause while a line is checked: bytes lent to them, which are wiped when they end. That the bytes hold the
 // clause's literals and no others is no ghost field: what is known of the lent bytes after the wiping would then be lost.
+// `clause` is the one that `of` marked; it is empty after `over`, and `mark` leaves it as it is.
 pub struct Marks<'a> {
     bytes: &'a mut [u8],
     pub clause: Clause,

@@ -1,9 +1,9 @@
-ghost use Rattle.std.specs.Prelude.{◌≡◌, ◌<◌, ◌≤◌, true, not, ◌&&◌, ◌||◌, [], length, take, neg_ℤ, if◌then◌else◌, nat_lt};
+ghost use Rattle.std.specs.Prelude.{◌≡◌, ◌<◌, ◌≤◌, true, not, ◌&&◌, ◌||◌, [], length, take, neg_ℤ, if◌then◌else◌, nat_lt, unsigned_abs};
 ghost use Rattle.std.proofs.Common.{rules};
 ghost use Rattle.std.specs.Cmp.Rules.{comparing};
 ghost use Rattle.std.specs.Ordering.{int_eq, on};
 ghost use Rattle.std.specs.Cmp.Lexicographic.{pointwise};
-ghost use Rattle.std.specs.List.{insert as inserted};
+ghost use Rattle.std.specs.List.{insert as inserted, prefix_len};
 ghost use Rattle.words.specs.Clauses.{rising, has, insert};
 ghost use Rattle.words.specs.Spots.{Located};
 
@@ -87,21 +87,52 @@ impl Clause {
     {
         let literals = self.literals();
         let variable = l.value.unsigned_abs();
-        // Most of what is looked for has no place but the first: a low pivot, and each literal of a list that falls.
+        // In front of all nothing else is compared: so for a low pivot, and for each literal of a list that falls.
         if let Some(first) = literals.first()
             && variable < first.unsigned_abs()
         {
             return Spot::Free(0);
         }
-        let found = literals.binary_search_by_key(&variable, |x| x.unsigned_abs());
-        match found {
-            Ok(at) if literals[at] == l.value => Spot::Present,
-            Ok(_) => Spot::Opposite,
-            Err(at) => Spot::Free(at),
+        let at = self.place(variable);
+        match literals.get(at) {
+            Some(x) if *x == l.value => Spot::Present,
+            Some(x) if x.unsigned_abs() == variable => Spot::Opposite,
+            _ => Spot::Free(at),
+        }
+    }
+
+    // How many of its literals are of lower variables: the place of a variable that it has, and where another belongs. At the ends
+    // that is seen at once, as for each literal of a list that rises.
+    fn place(&self, variable: u16) -> usize
+        ensures { result ≡ prefix_len (λ z. nat_lt (unsigned_abs z) variable) (take self.now.len self.now.lits) }
+    {
+        match self.literals() {
+            [first, ..] if variable <= first.unsigned_abs() => 0,
+            [.., last] if variable > last.unsigned_abs() => self.len,
+            [.., last] if variable == last.unsigned_abs() => self.len - 1,
+            _ => self.place_inside(variable),
+        }
+    }
+
+    // The same, found by a walk among few literals, where it ends sooner, and else by a search. It is kept out of its callers, and so is
+    // `put_at`: then `insert` is short enough to be drawn into the loops that call it.
+    #[inline(never)]
+    fn place_inside(&self, variable: u16) -> usize
+        ensures { result ≡ prefix_len (λ z. nat_lt (unsigned_abs z) variable) (take self.now.len self.now.lits) }
+    {
+        let literals = self.literals();
+        if literals.len() <= 8 {
+            literals
+                .iter()
+                .position(|x| x.unsigned_abs() >= variable)
+                .unwrap_or(literals.len())
+        } else {
+            literals.partition_point(|x| x.unsigned_abs() < variable)
         }
     }
 
     // Puts a literal in at the place where it belongs.
+    #[inline(never)]
     fn put_at(&mut self, at: usize, l: Literal)
         requires place { at ≤ self.old.len }
         requires room { self.old.len < 64 }
